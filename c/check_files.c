@@ -334,7 +334,7 @@ static int wrong_arguments(const char *name)
     out.length = 0;
     check(laz_writer_create(&to, NULL, head, length, 5, LAZ_SETS_COUNTS, &writer, &error) == LAZ_DONE, "a writer");
     check(laz_writer_finish(writer, &error) == LAZ_DONE && laz_writer_finish(writer, &error) == LAZ_WRONG, "twice");
-    check(laz_writer_put(writer, records, 1, &error) == LAZ_WRONG, "records behind the end");
+    check(laz_writer_put(writer, records, 1, &error) == LAZ_WRONG, "records after the end");
     laz_writer_close(writer);
     laz_writer_close(NULL);
     laz_reader_close(NULL);

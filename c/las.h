@@ -222,7 +222,7 @@ uint32_t laz_c_table_of(const uint32_t *sizes, size_t sizes_length, const uint32
  * reader or a writer is used by one thread at a time; different ones may be used side by side. There is no state
  * beside them. What opens one gives it to the caller, who gives it back by laz_reader_close or laz_writer_close,
  * also after an error. All pointers that a call takes have to be valid until it returns, and no longer, unless it
- * says so. Files stand behind calls of the caller's (struct laz_io), or are named by a path. Over calls of the
+ * says so. Files are reached by calls of the caller's (struct laz_io), or are named by a path. Over calls of the
  * caller's nothing of the system is used but malloc and free; the calls with `_path` need POSIX and threads, and
  * stand in an object of their own. */
 /**@{*/
@@ -256,7 +256,7 @@ const char *laz_cause_text(uint32_t cause);
  */
 size_t laz_error_text(const struct laz_error *error, const char *name, char *text, size_t room);
 
-/** A file behind calls of the caller's. Each answers 0 if it is done, and another number, which is kept in
+/** A file that is reached by calls of the caller's. Each answers 0 if it is done, and another number, which is kept in
  * laz_error.system, if it failed. What is not needed may be NULL. The struct is copied; its context is the caller's. */
 struct laz_io {
     void *context; /**< what the calls are given first */
@@ -296,7 +296,7 @@ typedef struct laz_reader laz_reader;
 uint32_t laz_reader_open(const struct laz_io *io, const struct laz_pool *pool, laz_reader **reader,
                          struct laz_error *error);
 
-/** Opens the regular file of this name, with so many threads, 1 to 256. As laz_reader_open. */
+/** Opens the regular file of this name, with `threads` threads, 1 to 256. As laz_reader_open. */
 uint32_t laz_reader_open_path(const char *name, unsigned threads, laz_reader **reader, struct laz_error *error);
 
 /** What the head says. It is valid until the reader is closed. */
@@ -322,7 +322,7 @@ uint32_t laz_reader_records(laz_reader *reader, uint32_t start, uint32_t stop, u
 
 /**
  * Reads the next records, at most `most`, from the first one on: `*count` is their number, and 0 at the end. The
- * answers are those of laz_reader_records; after another one than LAZ_DONE the next call goes on behind the `*count`
+ * answers are those of laz_reader_records; after another one than LAZ_DONE the next call goes on after the `*count`
  * records.
  */
 uint32_t laz_reader_next(laz_reader *reader, uint8_t *records, uint32_t most, uint32_t *count, struct laz_error *error);
@@ -359,7 +359,7 @@ uint32_t laz_writer_create(const struct laz_io *io, const struct laz_pool *pool,
                            uint32_t chunk, uint32_t sets, laz_writer **writer, struct laz_error *error);
 
 /**
- * Begins a file of this name, with so many threads, 1 to 256. As laz_writer_create.
+ * Begins a file of this name, with `threads` threads, 1 to 256. As laz_writer_create.
  *
  * The file is written under another name beside this one, and takes this name when laz_writer_finish has made it whole
  * and synced it. Until then an older file stays; so do its mode and, where the system allows, its owner and group. A

@@ -163,7 +163,7 @@ private:
 /** A file that is read. */
 class Reader {
 public:
-    /** Opens the regular file of this name, with so many threads, 1 to 256. */
+    /** Opens the regular file of this name, with `threads` threads, 1 to 256. */
     explicit Reader(const std::string &name, unsigned threads = 1) : name_(name)
     {
         laz_reader *made = nullptr;
@@ -172,7 +172,7 @@ public:
         reader_.reset(made);
     }
 
-    /** Opens a file behind calls of the caller's, with its threads if there are some. */
+    /** Opens a file that is reached by calls of the caller's, with its threads if there are some. */
     explicit Reader(const laz_io &io, const laz_pool *pool = nullptr, const std::string &name = "file") : name_(name)
     {
         laz_reader *made = nullptr;
@@ -202,7 +202,7 @@ public:
         return bytes;
     }
 
-    /** All records from the first one on, so many at a time: a range for `for`, once. */
+    /** All records from the first one on, `most` at a time: a range for `for`, once. */
     class Batches {
     public:
         class iterator {
@@ -276,7 +276,7 @@ private:
 /** A file that is written. It takes its name when `finish` has made it whole; without that, nothing is left of it. */
 class Writer {
 public:
-    /** Begins a file under the head of a plain file, in chunks of so many points, or plain with 0. `sets` is a sum of
+    /** Begins a file under the head of a plain file, in chunks of `chunk` points, or plain with 0. `sets` is a sum of
      * enum laz_sets. */
     Writer(const std::string &name, const std::vector<std::uint8_t> &head, std::uint32_t chunk,
            std::uint32_t sets = LAZ_SETS_COUNTS | LAZ_SETS_BOX, unsigned threads = 1)

@@ -3,8 +3,18 @@
 #define LAZ_FILE_H
 
 #include "las.h"
+#if __STDC_HOSTED__
 #include <stdlib.h>
 #include <string.h>
+#else
+/* What is used of the C library, for systems whose headers are not here: compiled with -ffreestanding. */
+void *malloc(size_t size);
+void *calloc(size_t count, size_t size);
+void *realloc(void *block, size_t size);
+void free(void *block);
+void *memcpy(void *target, const void *source, size_t size);
+void *memmove(void *target, const void *source, size_t size);
+#endif
 
 #define LASZIP_USER "laszip encoded"
 #define LASZIP_RECORD 22204
@@ -73,7 +83,7 @@ static inline void run_jobs(const struct laz_pool *pool, void (*job)(void *argum
             job(argument, i);
 }
 
-/* As the memory of so many items, at least one byte, so that NULL always says that there is none. */
+/* Memory for `count` items, at least one byte, so that NULL always says that there is none. */
 static inline void *items_of(size_t count, size_t size)
 {
     return count > SIZE_MAX / size - 1 ? NULL : malloc(count * size + 1);

@@ -405,7 +405,7 @@ const char *laz_cause_text(uint32_t cause)
     return cause < sizeof names / sizeof *names ? names[cause] : names[0];
 }
 
-/* A text that is written to some room, and goes on being counted behind it. */
+/* A text that is written to a buffer, and counted past its end. */
 struct text {
     char *bytes;
     size_t room, length;

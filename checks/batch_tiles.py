@@ -28,7 +28,7 @@ class Stock:
             self.packed[packed(name)] = made[1].read_bytes()
 
     def some(self, count: int) -> dict[str, bytes]:
-        """What the first so many tiles are packed to."""
+        """What the first `count` tiles are packed to."""
         return {packed(name): self.packed[packed(name)] for name in list(self.plain)[:count]}
 
 

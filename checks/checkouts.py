@@ -1,6 +1,7 @@
 """Checkouts of two small crates, with this repository's launcher, help and release scripts, and a program that tells
 how it was started.
 """
+import functools
 import gzip
 import hashlib
 import os
@@ -58,6 +59,7 @@ def sum_of(data: bytes) -> str:
     return hashlib.sha256(data).hexdigest()
 
 
+@functools.lru_cache(maxsize=None)
 def packages() -> str:
     """The cross packages of this machine, with their versions, as release/make notes them."""
     return good(["sh", "-c", ". release/systems.sh; package_versions"], cwd=TOP).strip()
@@ -106,9 +108,10 @@ class Checkout:
         """Makes a release of the present sources, of which each file unpacks to this program."""
         lines = ["kit kit of a check", "linker of a check", f"packages {packages()}", f"sources {self.sources()}",
                  f"c_sources {self.c_sources()}"]
+        packed, digest = gzip.compress(program, 1), sum_of(program)
         for name in PACKED:
-            self.path("release", name + ".gz").write_bytes(gzip.compress(program))
-            lines.append(f"{name} {sum_of(program)}")
+            self.path("release", name + ".gz").write_bytes(packed)
+            lines.append(f"{name} {digest}")
         self.path("release", "BUILT_FROM").write_text("".join(line + "\n" for line in lines))
 
     def document(self) -> None:

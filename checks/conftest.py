@@ -15,7 +15,8 @@ import programs  # noqa: E402
 from places import Place  # noqa: E402
 
 MARKERS = [
-    "slow: takes more than half a minute, or a disk of gigabytes; `./check --all` runs it",
+    "slow(seconds): takes long, or tries more of what other cases try; `./check --all` runs it, the longest first by "
+    "about how many seconds of a processor it takes",
     "huge: takes minutes, or many gigabytes: `./check --huge` runs these alone, beside the gate",
     "root: needs to be root, to mount a disk or to become another user",
     "servers: starts a server on this machine, as ssh or Slurm",
@@ -23,7 +24,7 @@ MARKERS = [
     "systems: long trials of the programs for other systems: `-m systems` runs these, beside the gate",
     "files: a whole run of the program on real files, and nothing else: tried on each build of the program",
     "browser: needs browsers or Wine: `./check --browser` runs these alone, beside the gate, as .ci/check_web does",
-    "alone: measures time or memory, or fills a disk: runs after the rest, one at a time",
+    "alone: measures time, or waits for servers: runs after the rest, one at a time",
 ]
 
 
@@ -53,6 +54,24 @@ def pytest_report_header(config):
     return f"checked is {programs.found()}"
 
 
+def dealt_out(items, workers):
+    """The cases in the order that keeps all workers busy: each begins with its share of the slow ones, longest first.
+
+    xdist sends each worker a run of cases that follow one another to begin with, a quarter of its share; then it sends
+    what is left to those that have done theirs.
+    """
+    slow = [item for item in items if "slow" in item.keywords]
+    slow.sort(key=lambda item: item.get_closest_marker("slow").kwargs.get("seconds", 1), reverse=True)
+    others = [item for item in items if "slow" not in item.keywords]
+    size = max(len(items) // workers // 4, 2)
+    order = []
+    for worker in range(workers):
+        share = slow[worker::workers]
+        order += share + others[:max(size - len(share), 0)]
+        others = others[max(size - len(share), 0):]
+    return order + others
+
+
 def pytest_collection_modifyitems(config, items):
     wanted = config.getoption("--alone")
     beside = "systems" in config.getoption("-m")
@@ -63,7 +82,7 @@ def pytest_collection_modifyitems(config, items):
         kept = [item for item in kept if ("alone" in item.keywords) == (wanted == "only")]
     chosen = set(kept)
     config.hook.pytest_deselected(items=[item for item in items if item not in chosen])
-    items[:] = sorted(kept, key=lambda item: "slow" not in item.keywords)  # long ones first
+    items[:] = dealt_out(kept, getattr(config, "workerinput", {}).get("workercount", 1))
     for item in items:
         if "slow" in item.keywords and not config.getoption("--all"):
             item.add_marker(pytest.mark.skip(reason="slow: ./check --all runs it"))
@@ -99,7 +118,7 @@ def place(program, tmp_path):
 
 @pytest.fixture
 def small_disk(tmp_path):
-    """Makes a disk of so many bytes, mounts it and answers its folder: `small_disk(2_000_000)`, `(.., kind="ext4")`."""
+    """Makes a disk of a size in bytes, mounts it, and returns its folder: `small_disk(2_000_000, kind="ext4")`."""
     needs.root()
     mounted = []
 

@@ -5,7 +5,7 @@
  * FAULT_AT     which of them fails, counted from 1
  * FAULT_ERROR  the number of the error; 0: the call takes or gives nothing
  * FAULT_DONE   a file that is made when a call fails
- * FAULT_MOST   each read and write of a file or a stream takes at most so many bytes
+ * FAULT_MOST   each read and write of a file or a stream takes at most that many bytes
  * FAULT_LOG    a file to which each write of a file is added: device, inode, position and length as 64 bits each, then
  *              the bytes
  * FAULT_READS  a file to which each read of a file is added, as these four numbers
@@ -51,7 +51,7 @@ static size_t cut(size_t count) {
     return most >= 0 && count > (size_t)most ? (size_t)most : count;
 }
 
-/* Adds a call that took or gave so many bytes to a log, and the first of the bytes that are kept there. One write for
+/* Adds a call that took or gave `count` bytes to a log, and the first of the bytes that are kept there. One write for
  * each record, so that records of two threads do not mix. */
 static void note(const char *setting, int fd, const void *bytes, size_t kept, size_t count, off_t at) {
     const char *log = getenv(setting);

@@ -25,22 +25,14 @@ SANITIZED = ["-std=c11", "-O1", "-g", "-Wall", "-Wextra", "-Wpedantic", "-Wconve
 
 
 def as_built() -> bool:
-    """Whether the library is to be built out of the crates as `rt ci` left them; else it is the released one."""
+    """Whether the library is to be built out of the crates as `rt ci` left them; else it is the released one, which
+    `release/make --check` compares with what the crates give."""
     return bool(os.environ.get("LAS_AS_BUILT"))
 
 
 def released() -> dict[str, bytes]:
     """The library of the release, by the names that release/library gives its files."""
     return {name: gzip.decompress((TOP / "release" / f"{packed}.gz").read_bytes()) for name, packed in RELEASED.items()}
-
-
-def released_here() -> bool:
-    """Whether the release was built by the kit and the linker that are here."""
-    script = ". release/build.sh; rt version; ld --version | head -n 1; named release/BUILT_FROM kit; " \
-             "named release/BUILT_FROM linker"
-    here = commands.quiet(["sh", "-c", script], cwd=TOP).stdout.decode()
-    kit, linker, its_kit, its_linker = (here.splitlines() + [""] * 4)[:4]
-    return kit == its_kit and its_linker.partition(", ")[0] == linker
 
 
 def build(folder: Path) -> None:

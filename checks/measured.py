@@ -19,7 +19,7 @@ def limits():
 started = time.monotonic()
 process = subprocess.Popen(sys.argv[2:], preexec_fn=limits, stdin=subprocess.DEVNULL, stdout=subprocess.DEVNULL)
 _, status, usage = os.wait4(process.pid, 0)
-print(os.waitstatus_to_exitcode(status), time.monotonic() - started, usage.ru_maxrss)
+print(os.waitstatus_to_exitcode(status), time.monotonic() - started, usage.ru_maxrss, usage.ru_utime + usage.ru_stime)
 """
 # For a program in Python: the most megabytes that it held since it was started.
 MOST = """import re
@@ -29,15 +29,15 @@ def most():
 
 
 class Taken:
-    """How a run ended, and what it took: seconds, and the greatest resident size in bytes."""
+    """How a run ended, and what it took: seconds, those of processors, and the greatest resident size in bytes."""
 
     def __init__(self, place: Place, words: list[str], space: Optional[int] = None) -> None:
         run = subprocess.run([sys.executable, "-S", "-c", RUN, str(space or 0), place.program, *words],
                              cwd=place.folder, capture_output=True, check=True)
-        status, seconds, kibibytes = run.stdout.split()
+        status, seconds, kibibytes, processor = run.stdout.split()
         self.line = run.stderr
         self.status = int(status)
-        self.seconds = float(seconds)
+        self.seconds, self.processor = float(seconds), float(processor)
         self.bytes = int(kibibytes) * 1024
 
     def ended(self, status: int, line: bytes = b"", most: Optional[int] = None) -> None:

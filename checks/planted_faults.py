@@ -10,6 +10,7 @@ import subprocess
 import sys
 import tempfile
 from pathlib import Path
+from shlex import quote
 
 import programs
 
@@ -26,12 +27,14 @@ FAULTS: dict[str, tuple[str, list[str]]] = {
 }
 PLANTED = [(command, fault) for command in COMMANDS for fault in FAULTS if command not in FAULTS[fault][1]]
 
-WRAPPER = '''#!{python}
-import os, pathlib, subprocess, sys
+WRAPPER = '''#!/bin/sh
+[ "${{1-}}" = {command} ] || exec {program} "$@"
+exec {python} -IS {planted} "$@"
+'''
+
+PLANTED_FAULT = '''import os, pathlib, subprocess, sys
 program, command, fault = {program!r}, {command!r}, {fault!r}
 words = sys.argv[1:]
-if words[:1] != [command]:
-    os.execv(program, [program, *words])
 def files():
     return {{name: pathlib.Path(name).read_bytes() for name in sorted(os.listdir(".")) if os.path.isfile(name)}}
 before = files()
@@ -64,8 +67,10 @@ sys.exit(status)
 
 def found_by(program: str, folder: Path, command: str, fault: str) -> list[str]:
     """The cases that fail if a fault is planted in a command."""
-    wrapper = folder / "las"
-    wrapper.write_text(WRAPPER.format(python=sys.executable, program=program, command=command, fault=fault))
+    wrapper, planted = folder / "las", folder / "planted_fault.py"
+    wrapper.write_text(WRAPPER.format(command=command, program=quote(program), python=quote(sys.executable),
+                                      planted=quote(str(planted))))
+    planted.write_text(PLANTED_FAULT.format(program=program, command=command, fault=fault))
     wrapper.chmod(0o755)
     here = programs.TOP / "checks"
     line = [sys.executable, "-m", "pytest", "-c", f"{here}/pytest.ini", "--rootdir", f"{here}", "-p", "no:xdist",

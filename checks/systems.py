@@ -31,7 +31,7 @@ def is_foreign(name: str) -> bool:
 
 
 def emulator(name: str, pages: int = 0) -> list[str]:
-    """The words that run a program of this name here, with pages of so many bytes."""
+    """The words that run a program of this name here, with pages of that many bytes."""
     if not is_foreign(name):
         return []
     needs.command("qemu-aarch64", "qemu-user")

@@ -187,7 +187,6 @@ def test_verify_and_delete(tiles):
 
 
 @pytest.mark.root
-@pytest.mark.alone
 def test_a_full_folder_and_resume_after_there_is_room(tiles, small_disk):
     full = small_disk(300_000)
     run = tiles.batch("laszip", "-odir", full, *tiles.names())

@@ -12,7 +12,7 @@ from batch_places import processes_with, wait_until
 from batch_servers import SshServer
 from batch_tiles import Stock, StockTiles, ended
 
-pytestmark = [pytest.mark.servers, pytest.mark.root, pytest.mark.alone, pytest.mark.slow]
+pytestmark = [pytest.mark.servers, pytest.mark.root, pytest.mark.slow(seconds=10)]
 
 
 @pytest.fixture(scope="module")
@@ -65,6 +65,7 @@ def test_a_bad_tile_that_was_sent(tiles, server):
     assert kept_on_hosts(server) == []
 
 
+@pytest.mark.alone
 def test_a_host_that_does_not_answer(tiles, server):
     tiles.path("hosts").write_text("2/none.invalid\n")
     run = tiles.batch("laszip", "-odir", "out", "-hosts", "hosts", *tiles.names(10, 12), environment=server.environment)
@@ -75,6 +76,7 @@ def test_a_host_that_does_not_answer(tiles, server):
     ended(run, 0, b"2 done, 0 not")
 
 
+@pytest.mark.alone
 @pytest.mark.parametrize("words", [[], ["-ship"]], ids=" ".join)
 @pytest.mark.parametrize("number", [signal.SIGKILL, signal.SIGTERM])
 def test_jobs_over_ssh_end_with_las_batch(tiles, server, words, number):

@@ -9,8 +9,6 @@ import needs
 from batch_places import processes_with, wait_until
 from batch_tiles import Stock, StockTiles, ended
 
-pytestmark = pytest.mark.alone
-
 
 @pytest.fixture(scope="module")
 def stock(program, tmp_path_factory):
@@ -29,7 +27,7 @@ def some_done(tiles, name, run, count=25):
 
 @pytest.mark.parametrize("words", [[], ["-verify"], ["-verify", "-delete"]], ids=" ".join)
 def test_resume_after_a_kill_of_all(tiles, words):
-    with tiles.running("laszip", "-odir", "out", *words, *tiles.names(), las=tiles.slow(0.02)) as run:
+    with tiles.running("laszip", "-odir", "out", *words, *tiles.names(), las=tiles.slow(0.05)) as run:
         some_done(tiles, "out", run)
         os.killpg(run.pid, signal.SIGKILL)
         run.wait()

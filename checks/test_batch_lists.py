@@ -146,7 +146,6 @@ def test_nothing_in_the_trash_is_written_over(tiles):
 
 
 @pytest.mark.root
-@pytest.mark.alone
 def test_the_trash_is_on_the_same_disk(tiles, small_disk):
     tiles.make("in/a.las")
     run = tiles.batch("laszip", "-odir", "out", "-verify", "-trash", small_disk(100_000), "-r", "in")

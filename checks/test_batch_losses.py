@@ -19,7 +19,6 @@ def tiles(program, tmp_path):
 
 
 @pytest.mark.root
-@pytest.mark.alone
 def test_resume_after_a_full_disk_deletes_nothing_that_was_not_to_be_deleted(tiles, small_disk):
     out = small_disk(1_000_000)
     tiles.make("first/a.las")
@@ -155,7 +154,6 @@ def test_the_output_of_another_is_not_written_over(tiles):
 
 
 @pytest.mark.root
-@pytest.mark.alone
 @pytest.mark.parametrize("turn", range(3))
 def test_resume_goes_on_after_a_power_cut(tiles, small_disk, turn):
     disk = small_disk(30_000_000, kind="ext4")
@@ -182,7 +180,6 @@ def test_resume_goes_on_after_a_power_cut(tiles, small_disk, turn):
         f"tiles/{Path(name).stem}.las": data for name, data in tiles.outputs(str(out)).items()}
 
 
-@pytest.mark.alone
 def test_a_kill_of_las_batch_alone_ends_its_jobs(tiles):
     wanted = tiles.make_all(60)
     with tiles.running("laszip", "-odir", "out", "-jobs", "4", *wanted, las=tiles.slow(0.3)) as run:
@@ -199,7 +196,6 @@ def test_a_kill_of_las_batch_alone_ends_its_jobs(tiles):
     assert (again.returncode, b"60 done, 0 not" in again.stderr) == (0, True), again.stderr
 
 
-@pytest.mark.alone
 @pytest.mark.parametrize("number", [signal.SIGINT, signal.SIGTERM, signal.SIGHUP])
 def test_an_interrupt_says_one_line_and_leaves_no_draft(tiles, number):
     tiles.make("tiles/000.las")

@@ -32,7 +32,7 @@ def trials(program, tmp_path, library):
 
 
 def those_of(part, calls, after=0):
-    """The calls of one part. Part 0 is those that tell, and so many calls after each."""
+    """The calls of one part. Part 0 is those that tell, and `after` calls after each."""
     assert len(calls) > 200 and "renameat2" in calls, calls
     if part == 0:
         telling = [at for at, name in enumerate(calls, 1) if name in TELLING]
@@ -49,7 +49,7 @@ def each(trials, part, after=0):
 
 
 every_part = pytest.mark.parametrize("part", [
-    pytest.param(0, marks=pytest.mark.slow),
+    pytest.param(0, marks=pytest.mark.slow(seconds=20)),
     *(pytest.param(at, marks=pytest.mark.huge) for at in range(1, PARTS + 1))])
 
 

@@ -120,8 +120,8 @@ def test_wkt_decides_if_the_head_says_so(facts, tmp_path):
     ('PROJCRS["y",BASEGEOGCRS["z",ID["EPSG",4326]],LENGTHUNIT["foot",0.3048]]', ("y", None)),
 ], ids=["empty", "open", "closed", "too deep", "deep", "version 2", "no code", "code of a part"])
 def test_wkt(package, text, found):
-    crs = importlib.import_module("balsamvise.geokeys").crs_of({2112: text.encode()}, 16)
-    assert (crs and (crs["name"], crs["epsg"])) == found
+    crs = importlib.import_module("balsamvise.crs_vlrs").read_crs({2112: text.encode()}, 16)
+    assert (crs and (crs.name, crs.epsg)) == found
 
 
 @pytest.mark.parametrize("code, epsg, name", [(0, None, "a grid of our own"), (32767, None, "a grid of our own"),

@@ -159,7 +159,6 @@ def test_a_bad_chunk_without_an_output_names_none(place: Place) -> None:
 
 
 @pytest.mark.root
-@pytest.mark.alone
 def test_a_full_disk_leaves_a_part_that_is_named(place: Place, small_disk) -> None:
     disk = small_disk(40_000)
     status, said = hinted(place, "make", "-o", str(disk / "m.las"), "-z", "m.laz", "-points", "5000", "-seed", "1")
@@ -169,7 +168,15 @@ def test_a_full_disk_leaves_a_part_that_is_named(place: Place, small_disk) -> No
 
 
 @pytest.mark.root
-@pytest.mark.alone
+def test_it_runs_without_hints_if_the_folder_for_what_is_temporary_takes_no_file(place: Place, small_disk) -> None:
+    disk = small_disk(40_000)
+    subprocess.run(["mount", "-o", "remount,nr_inodes=2", str(disk)], check=True)  # its own folder, and one more
+    place.write("a.las", head(0))
+    assert hinted(place, "laszip", "-i", "a.las", "-o", "a.laz", TMPDIR=str(disk)) == (0, "")
+    assert place.read("a.laz")
+
+
+@pytest.mark.root
 def test_the_line_is_told_when_the_folder_for_what_is_temporary_is_full(place: Place, small_disk) -> None:
     disk = small_disk(40_000)
     filler = os.open(disk / "filler", os.O_WRONLY | os.O_CREAT)

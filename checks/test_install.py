@@ -6,6 +6,7 @@ from pathlib import Path
 import pytest
 
 import commands
+import shared
 from checkouts import Checkout
 from las_files import FILE
 from places import Place
@@ -27,10 +28,12 @@ def tree(folder):
 class Installing:
     """A checkout with the program that is checked, and a folder to install in."""
 
+    PREFIX = "prefix with blank"
+
     def __init__(self, folder, program):
         self.at = Checkout(folder, Path(program).read_bytes())
         self.at.without_rt()
-        self.prefix = folder / "prefix with blank"
+        self.prefix = folder / self.PREFIX
 
     def __call__(self, *words, status=0, part="", **more):
         run = commands.quiet([self.at.path("install"), *words], env={**self.at.environment, **more})
@@ -57,11 +60,20 @@ def installed(install, tmp_path):
     return place
 
 
+@pytest.fixture(scope="module")
+def whole(program, tmp_path_factory):
+    """A folder with all that is installed, which cases look at and do not change."""
+    def make(folder):
+        install = Installing(folder, program)
+        install.prefix.mkdir()
+        install(install.prefix, part="installed below")
+
+    return shared.once(tmp_path_factory, "all that install puts there", make) / Installing.PREFIX
+
+
 @pytest.mark.parametrize("name", INSTALLED)
-def test_what_is_installed(install, name):
-    install.prefix.mkdir()
-    install(install.prefix, part="installed below")
-    assert (install.prefix / name).is_file()
+def test_what_is_installed(whole, name):
+    assert (whole / name).is_file()
 
 
 def test_installed_program_packs_and_unpacks_without_the_checkout_and_rt(installed):

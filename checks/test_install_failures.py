@@ -13,7 +13,8 @@ from install_trials import Trial, differences, final
 HOWS = ["fails", "before", "after", "interrupt"]
 SHARES = 16
 # the first share in the gate, the others beside it
-SHARE = [pytest.param(share, marks=pytest.mark.huge if share else pytest.mark.slow) for share in range(SHARES)]
+SHARE = [pytest.param(share, marks=pytest.mark.huge if share else pytest.mark.slow(seconds=5))
+         for share in range(SHARES)]
 
 
 def chosen(steps: int, how: str, share: int) -> "list[int]":
@@ -160,10 +161,9 @@ def test_some_steps_of_an_upgrade(trial: Trial, how: str) -> None:
 
 
 @pytest.mark.root
-@pytest.mark.alone
-@pytest.mark.slow
+@pytest.mark.slow(seconds=20)
 def test_a_disk_that_is_full_at_any_place(tmp_path: Path, small_disk) -> None:
-    """The disk has room for so many blocks; then it gets room, and the same line installs."""
+    """The disk has room for a number of blocks; then it gets room, and the same line installs."""
     disk = small_disk(64_000_000)
     tmp_path.chmod(0o755)
     trial = Trial(tmp_path, disk / "prefix")
@@ -192,7 +192,6 @@ def test_a_disk_that_is_full_at_any_place(tmp_path: Path, small_disk) -> None:
 
 
 @pytest.mark.root
-@pytest.mark.alone
 def test_an_upgrade_on_a_full_disk_leaves_what_is_installed(tmp_path: Path, small_disk) -> None:
     disk = small_disk(64_000_000)
     tmp_path.chmod(0o755)

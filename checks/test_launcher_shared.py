@@ -65,7 +65,6 @@ def test_a_stamp_that_another_user_has_closed_is_passed_over(checkout: Trial) ->
 
 
 @pytest.mark.root
-@pytest.mark.alone
 def test_no_proof_begins_on_a_full_disk(tmp_path: Path, small_disk) -> None:
     """Nothing can be unpacked, so the launcher would prove the program anew, for which there is no room either."""
     disk = small_disk(8_000_000)

@@ -188,6 +188,7 @@ def test_a_long_run_shows_how_far_it_is_in_a_line_that_goes(place: Place, tmp_pa
     assert screen(shown) == []
 
 
+@pytest.mark.alone
 def test_a_short_run_shows_nothing(place: Place, tmp_path: Path) -> None:
     las = launched(tmp_path, "#!/bin/sh\nexit 0\n")
     start_time = time.monotonic()

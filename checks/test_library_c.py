@@ -33,16 +33,13 @@ def files(tmp_path_factory, program):
 
 
 @pytest.mark.kit
-@pytest.mark.slow
+@(pytest.mark.slow if library_files.as_built() else pytest.mark.huge)
 def test_library_is_built_twice_alike(library, tmp_path):
-    """One of the two is that of the release, if the kit and the linker are those that built it."""
+    """In the gate release/make --check compares it with that of the release, if the tools are those that built it."""
     if not library_files.as_built():
         needs.missing("the crates are not proved here", "LAS_AS_BUILT=1 after `rt ci`")
-    if library_files.released_here():
-        other = library_files.released()
-    else:
-        commands.good([TOP / "release" / "library", "--as-built", tmp_path], timeout=5400)
-        other = {name: (tmp_path / name).read_bytes() for name in library_files.RELEASED}
+    commands.good([TOP / "release" / "library", "--as-built", tmp_path], timeout=5400)
+    other = {name: (tmp_path / name).read_bytes() for name in library_files.RELEASED}
     assert [name for name, data in other.items() if (library / name).read_bytes() != data] == []
 
 

@@ -143,7 +143,7 @@ def test_wrong_arguments(built, files):
     good(built / "check_files", "wrong", files / "3_4.laz")
 
 
-@pytest.mark.slow
+@pytest.mark.slow(seconds=12)
 def test_valgrind_finds_nothing(built, files, few):
     needs.command("valgrind", "valgrind")
     line = ["valgrind", "-q", "--error-exitcode=7", "--leak-check=full", built / "check_archive"]
@@ -158,13 +158,29 @@ def test_threads_have_no_race(program, built, tmp_path):
     assert (tmp_path / "a.laz").read_bytes() == (tmp_path / "b.laz").read_bytes()
 
 
-def test_the_part_over_calls_needs_nothing_of_the_system(archive, tmp_path):
+@pytest.mark.parametrize("flags", [[], ["-ffreestanding", "-nostdinc"]], ids=["here", "without the system's headers"])
+@pytest.mark.parametrize("name", ["laz_reader", "laz_writer"])
+def test_the_part_over_calls_needs_nothing_of_the_system(tmp_path, name, flags):
     needs.command("nm", "binutils")
-    for name in ("laz_reader", "laz_writer"):
-        commands.good(["gcc", *STRICT, "-c", TOP / "c" / f"{name}.c", "-o", tmp_path / "object"])
-        used = commands.good(["nm", "-u", tmp_path / "object"]).split()[1::2]
-        assert {it for it in used if not it.startswith("laz_c_")} <= {"malloc", "calloc", "realloc", "free", "memcpy",
-                                                                      "memmove", "memset"}
+    headers = commands.good(["gcc", "-print-file-name=include"]).strip()  # those of C itself
+    commands.good(["gcc", *STRICT, *flags, "-isystem", headers, "-c", TOP / "c" / f"{name}.c", "-o",
+                   tmp_path / "object"])
+    used = commands.good(["nm", "-u", tmp_path / "object"]).split()[1::2]
+    assert {it for it in used if not it.startswith("laz_c_")} <= {"malloc", "calloc", "realloc", "free", "memcpy",
+                                                                  "memmove", "memset"}
+
+
+@pytest.mark.parametrize("name, end", [("3_4.laz", 0), ("1_0.las", 0), ("0_0.counted.laz", 0), ("none", 4),
+                                       ("head", 2)])
+def test_heights_over_calls_are_those_by_the_path(files, archive, tmp_path, name, end):
+    for program in ("heights", "heights_io"):
+        commands.good(["gcc", *STRICT, *SANITIZERS, TOP / "c" / f"{program}.c", archive, "-o", tmp_path / program])
+    (tmp_path / "head").write_bytes(b"no head of a file")
+    path = tmp_path / name if name in ("none", "head") else files / name
+    ours, theirs = (commands.quiet([tmp_path / program, path]) for program in ("heights_io", "heights"))
+    assert (ours.returncode, ours.stdout) == (theirs.returncode, theirs.stdout)
+    assert ours.returncode == end
+    assert ours.stderr.split()[:3] == theirs.stderr.split()[:3]  # a path has an errno beside it
 
 
 @pytest.mark.parametrize("name, most", [("heights.c", 30), ("filter.c", 60), ("filter.cpp", 30)])
@@ -283,7 +299,6 @@ def test_a_link_and_the_mode_stay(built, tmp_path):
     assert (tmp_path / "real.laz").stat().st_size > 100
 
 
-@pytest.mark.alone
 @pytest.mark.parametrize("threads", ["1", "64"])
 def test_spoilt_files_take_little_memory(built, files, tmp_path, threads):
     """Many damaged files in one process below 300 MB."""

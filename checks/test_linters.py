@@ -1,4 +1,6 @@
 """No source of the repository has what a linter warns of. The sources are found, so that a new one is tried too."""
+from pathlib import Path
+
 import pytest
 
 import commands
@@ -9,14 +11,15 @@ from programs import TOP
 SHELL = sources.scripts("sh", "bash")
 PYTHON = sources.scripts("python3")
 C = [path for path in sources.files() if path.suffix == ".c"]
-# what mypy takes as one program: the sources and the folder of their modules
-PROGRAMS = {
+# what mypy takes as one program: the sources, and the folder of their modules
+PROGRAMS: dict[str, tuple[list[Path], str]] = {
     "checks": ([path for path in PYTHON if path.parts[0] == "checks"], "checks"),
     "the Python package": ([path for path in PYTHON if path.parts[0] == "python"], "python/src"),
     "the plugin for QGIS": ([path for path in PYTHON if path.parts[0] == "qgis"], "qgis"),
-    **{str(path): ([path], str(path.parent)) for path in PYTHON
-       if path.parts[0] not in ("checks", "python", "qgis", ".ci")},
 }
+for found in PYTHON:
+    if found.parts[0] not in ("checks", "python", "qgis", ".ci"):
+        PROGRAMS.setdefault(str(found.parent), ([], str(found.parent)))[0].append(found)
 
 
 @pytest.mark.parametrize("kind, name", [
@@ -43,13 +46,15 @@ def test_shellcheck(script):
     clean("shellcheck", *shell, script)
 
 
-@pytest.mark.parametrize("script", PYTHON, ids=str)
-def test_flake8(script):
+@pytest.mark.parametrize("folder", sorted({str(path.parent) for path in PYTHON}))
+def test_flake8(folder):
     needs.command("flake8", "flake8")
-    clean("flake8", "--isolated", "--max-line-length", "120", script)
+    clean("flake8", "--isolated", "--jobs=1", "--max-line-length", "120",
+          *[path for path in PYTHON if str(path.parent) == folder])
 
 
-@pytest.mark.parametrize("name", PROGRAMS)
+@pytest.mark.parametrize("name", [pytest.param(name, marks=pytest.mark.slow(seconds=10 if name == "checks" else 5))
+                                  for name in PROGRAMS])
 def test_mypy(name, tmp_path):
     needs.command("mypy", "mypy")
     files, folder = PROGRAMS[name]

@@ -7,7 +7,6 @@ import pytest
 from las_files import head, vlr
 from measured import MEGABYTE, Taken
 
-pytestmark = pytest.mark.alone
 # the chunk table of one chunk of 24 bytes
 TABLE = bytes([0, 0, 0, 0, 1, 0, 0, 0, 0x2C, 0x5C, 0, 0, 0])
 LIST_CHUNKS = 1 << 24
@@ -110,6 +109,7 @@ def test_out_of_memory_while_an_input_is_looked_through_leaves_no_output(place):
     assert place.names() == ["spread.las"]
 
 
+@pytest.mark.alone
 @pytest.mark.parametrize("way", ["packed", "unpacked"])
 def test_two_chunks_of_250_000_points_by_one_and_by_four_workers(place, capsys, way):
     """The times are printed; a check of them would rest on what else the machine does."""

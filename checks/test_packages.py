@@ -12,6 +12,7 @@ import pytest
 
 import needs
 import pages
+import shared
 from programs import TOP
 
 SAMPLE = TOP / "examples" / "tile.laz"
@@ -19,18 +20,22 @@ VERSION = (TOP / "help" / "version").read_text().strip()
 DEBIAN = "/usr/bin/python3"  # the one that Debian's numpy and pip are for
 
 
-def made_by(script: str, folder: Path) -> dict[str, Path]:
-    """What a script of release/ puts in a folder, by name."""
-    subprocess.run([TOP / "release" / script, folder], stdin=subprocess.DEVNULL, stdout=subprocess.DEVNULL, check=True)
-    return {name: folder / name for name in sorted(os.listdir(folder))}
+def made_by(script: str, tmp_path_factory: pytest.TempPathFactory, name: str = "") -> dict[str, Path]:
+    """What a script of release/ puts in a folder, by name. It is made once for all processes of this run."""
+    def make(folder: Path) -> None:
+        subprocess.run([TOP / "release" / script, folder], stdin=subprocess.DEVNULL, stdout=subprocess.DEVNULL,
+                       check=True)
+
+    if script == "deb":
+        needs.command("dpkg-deb", "dpkg")
+    folder = shared.once(tmp_path_factory, f"made by {script}{name}", make)
+    return {name: folder / name for name in sorted(os.listdir(folder)) if name != "made"}
 
 
 @pytest.fixture(scope="module", params=["deb", "wheel", "tar"])
 def twice(request, tmp_path_factory):
     """What a script makes in two folders."""
-    if request.param == "deb":
-        needs.command("dpkg-deb", "dpkg")
-    return [made_by(request.param, tmp_path_factory.mktemp(request.param)) for _ in range(2)]
+    return [made_by(request.param, tmp_path_factory, name) for name in ("", " again")]
 
 
 def test_package_has_the_same_bytes_again(twice):
@@ -42,14 +47,14 @@ def test_package_has_the_same_bytes_again(twice):
 
 def test_sums_are_those_of_the_packages(twice):
     first, _ = twice
-    lines = dict(reversed(line.split("  ")) for line in first.pop("SHA256SUMS").read_text().splitlines())
-    assert lines == {name: hashlib.sha256(path.read_bytes()).hexdigest() for name, path in first.items()}
+    lines = dict(reversed(line.split("  ")) for line in first["SHA256SUMS"].read_text().splitlines())
+    assert lines == {name: hashlib.sha256(path.read_bytes()).hexdigest() for name, path in first.items()
+                     if name != "SHA256SUMS"}
 
 
 @pytest.fixture(scope="module")
 def packages(tmp_path_factory):
-    needs.command("dpkg-deb", "dpkg")
-    return made_by("deb", tmp_path_factory.mktemp("deb"))
+    return made_by("deb", tmp_path_factory)
 
 
 def debs(packages, end=".deb"):
@@ -230,7 +235,7 @@ class TestReadme:
 
 @pytest.fixture(scope="module")
 def wheels(tmp_path_factory):
-    return made_by("wheel", tmp_path_factory.mktemp("wheel"))
+    return made_by("wheel", tmp_path_factory)
 
 
 def environment(folder: Path) -> Path:
@@ -296,7 +301,7 @@ def test_import_on_an_old_processor_says_so(tmp_path):
 
 @pytest.fixture(scope="module")
 def archives(tmp_path_factory):
-    return made_by("tar", tmp_path_factory.mktemp("tar"))
+    return made_by("tar", tmp_path_factory)
 
 
 def unpacked_for(machine, archives, tmp_path):

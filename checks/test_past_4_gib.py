@@ -48,10 +48,11 @@ def huge(program, folder):
 
 
 def said(place, what, words, most=600):
-    """A run that has to be done in so many megabytes; what it took goes to the table of docs/performance.md."""
+    """A run that has to be done in `most` megabytes; what it took goes to the table of docs/performance.md."""
     run = Taken(place, words)
     run.ended(0, most=most * MEGABYTE)
-    print(f"{what}: {run.seconds:.1f} s, {run.bytes / MEGABYTE:.0f} MB", file=sys.__stderr__, flush=True)
+    print(f"{what}: {run.seconds:.1f} s, {run.processor:.1f} s of processors, {run.bytes / MEGABYTE:.0f} MB",
+          file=sys.__stderr__, flush=True)
 
 
 def same(place, one, other, *words):

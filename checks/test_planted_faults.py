@@ -3,7 +3,7 @@ import pytest
 
 from planted_faults import COMMANDS, FAULTS, PLANTED, found_by
 
-pytestmark = pytest.mark.slow
+pytestmark = pytest.mark.slow(seconds=2)
 
 
 @pytest.mark.parametrize("command, fault", PLANTED, ids=[f"{command}, {fault}" for command, fault in PLANTED])

@@ -27,14 +27,14 @@ def it(tmp_path_factory):
 
 @pytest.fixture
 def strange(it):
-    """A head with bytes in all places where nobody looks: behind the block, between the VLRs and the points."""
+    """A head with bytes in all places where nobody looks: after the block, between the VLRs and the points."""
     def of(minor):
         head = it.Head.new(3, minor=minor, extra=2, vlrs=[it.Vlr(b"me", 5, b"abc", b"about", 0xAABB)])
         data = bytearray(bytes(head))
         size = head.header_size
-        data[size:size] = b"behind the block"
+        data[size:size] = b"after the block"
         data += b"before the points"
-        struct.pack_into("<HI", data, 94, size + 16, len(data))
+        struct.pack_into("<HI", data, 94, size + len(b"after the block"), len(data))
         data[8:24] = bytes(range(16))
         return it.Head(bytes(data))
     return of
@@ -84,7 +84,7 @@ def test_version_is_changed_with_counts_and_strange_bytes(it, strange, program, 
     made = points.head.changed(minor=new)
     assert (made.minor, made.points, made.returns[:5]) == (new, 7, (2, 1, 1, 1, 2))
     assert made.vlrs == points.head.vlrs
-    assert b"behind the block" in bytes(made) and bytes(made).endswith(b"before the points")
+    assert b"after the block" in bytes(made) and bytes(made).endswith(b"before the points")
     points.head = made
     points.write(tmp_path / "a.laz")
     assert it.read(tmp_path / "a.laz").head == made
@@ -156,6 +156,37 @@ def test_crs_of_a_stranger(it, payload):
         head = it.Head.new(0, minor=4, vlrs=[it.Vlr(b"LASF_Projection", number, payload)])
         assert head.crs is None or isinstance(head.crs, it.Crs)
         assert repr(head)
+
+
+def keys(*pairs):
+    """The payload of a VLR of GeoTIFF keys."""
+    return struct.pack("<4H", 1, 1, 0, len(pairs)) + b"".join(struct.pack("<4H", key, 0, 1, it) for key, it in pairs)
+
+
+COMPOUND = 'COMPD_CS["a",PROJCS["b",GEOGCS["c",AUTHORITY["EPSG","4258"]],AUTHORITY["EPSG","25832"]],' \
+           'VERT_CS["d",AUTHORITY["EPSG","7837"]],AUTHORITY["EPSG","5555"]]'
+
+
+@pytest.mark.parametrize("payload, encoding, found", [
+    (keys((1024, 1), (3072, 25832)), 0, (25832, None, False)),
+    (keys((1024, 2), (2048, 4326)), 0, (4326, None, True)),
+    (keys((2048, 4258), (4096, 7837)), 0, (4258, 7837, True)),
+    (keys((1024, 3), (2048, 4978)), 0, (4978, None, False)),
+    (keys((1024, 1), (2048, 4258), (3072, 32767), (4096, 7837)), 0, (None, 7837, None)),
+    (keys((1024, 1), (2048, 4258), (3072, 32767)), 0, None), (keys((1024, 1), (2048, 4258)), 0, None),
+    (COMPOUND.encode(), 16, (25832, 7837, False)),
+    (COMPOUND.replace("PROJCS", "GEOGCS").encode(), 0, (25832, 7837, True)),
+], ids=["projected", "geographic", "with heights", "geocentric", "user-defined with heights", "user-defined",
+        "without its code", "compound", "compound geographic"])
+def test_crs_is_read_by_one_rule(it, tmp_path, payload, encoding, found):
+    """The geographic CRS below a projected one that the file defines itself is not that of the coordinates. `describe`
+    says the same."""
+    number = 2112 if payload.startswith(b"COMPD") else 34735
+    head = it.Head.new(0, minor=4, vlrs=[it.Vlr(b"LASF_Projection", number, payload)]).changed(global_encoding=encoding)
+    assert (head.crs and (head.crs.epsg, head.crs.vertical, head.crs.is_geographic)) == found
+    it.write(tmp_path / "a.las", head, it.Points.zeros(1, head))
+    facts = __import__("balsamvise.facts").facts.read_facts(tmp_path / "a.las")["crs"]
+    assert (facts["epsg"], facts["vertical_epsg"]) == (found or (None, None))[:2]
 
 
 def test_day_that_is_none(it):

@@ -52,7 +52,6 @@ def test_the_file_is_small(claims: "tuple[Path, dict[str, str]]") -> None:
     assert struct.unpack_from("<I", claims[0].read_bytes(), 107)[0] == CHUNKS
 
 
-@pytest.mark.alone
 @pytest.mark.parametrize("threads", [1, 2, 64, 256])
 def test_more_chunks_than_the_file_has_bytes_for_take_no_memory(claims: "tuple[Path, dict[str, str]]",
                                                                 threads: int) -> None:
@@ -105,7 +104,6 @@ print(most(), *sorted(causes))
 """
 
 
-@pytest.mark.alone
 @pytest.mark.parametrize("count", [500, pytest.param(20_000, marks=pytest.mark.huge)])
 def test_spoilt_files_are_refused_by_name_or_read_below_300_mb(claims: "tuple[Path, dict[str, str]]",
                                                                count: int) -> None:

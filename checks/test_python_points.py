@@ -171,6 +171,21 @@ def test_functions_of_numpy_write_through_or_raise(np, points_of):
     assert (points["intensity"][np.asarray(points.z) > 0] == 5).all()
 
 
+@pytest.mark.parametrize("field", ["classification", "withheld", "x"])
+@pytest.mark.parametrize("function", ["put", "place", "putmask"])
+def test_functions_that_do_not_write_to_a_computed_field_raise(np, points_of, function, field):
+    """The putmask of numpy 1.19 would say nothing."""
+    points = points_of(3)
+    before, mask = points.tobytes(), [0] if function == "put" else np.ones(1000, bool)
+    for words, named in (((getattr(points, field), mask, [1]), {}), ((), {
+            "arr" if function == "place" else "a": getattr(points, field),
+            "ind" if function == "put" else "mask": mask,
+            {"put": "v", "place": "vals", "putmask": "values"}[function]: [1]})):
+        with pytest.raises(ValueError, match=f"{field}: np.{function} does not write to it"):
+            getattr(np, function)(*words, **named)
+    assert points.tobytes() == before
+
+
 @pytest.mark.parametrize("axis", range(3))
 def test_coordinates_are_rounded_by_scale_and_offset(np, points_of, axis):
     points = points_of(1)

@@ -256,7 +256,27 @@ def memory(it, tmp_path, threads, traced, millions):
     return [int(number) for number in run.stdout.split()]
 
 
-@pytest.mark.alone
+FAULTS = """import resource, sys
+sys.path.insert(0, sys.argv[1])
+import balsamvise
+head = balsamvise.Head.new(3)
+block = balsamvise.Points.zeros(1_000_000, head)
+with balsamvise.create(sys.argv[2], head, threads=int(sys.argv[3])) as out:
+    out.write(block)
+    before = resource.getrusage(resource.RUSAGE_SELF).ru_minflt
+    out.write(block)
+    print(resource.getrusage(resource.RUSAGE_SELF).ru_minflt - before)
+"""
+
+
+@threads_
+def test_chunks_are_packed_in_the_same_memory_again(it, tmp_path, threads):
+    """Fresh memory for each chunk would take 1,700 page faults each, which is half of the time of packing."""
+    line = [sys.executable, "-c", FAULTS, str(TOP / "python" / "src"), str(tmp_path / "a.laz"), str(threads)]
+    run = subprocess.run(line, stdout=subprocess.PIPE, check=True)
+    assert int(run.stdout) < 20 * 600
+
+
 @pytest.mark.slow
 def test_memory_does_not_grow_with_the_file(it, tmp_path):
     """Parts of 1,000,000 records of 34 bytes, by 4 threads: below 300 MB, for 6 parts and for 12."""

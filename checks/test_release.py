@@ -7,6 +7,7 @@ import pytest
 import needs
 import commands
 from checkouts import PACKED, TELLER, Checkout, packages
+from programs import TOP
 
 NO_BUILD = "there is no crates/las/out/las"
 
@@ -154,3 +155,22 @@ def test_gate_on(tmp_path, state):
     assert run.returncode == status, run.stderr
     assert part in (run.stderr if status else run.stdout).decode()
     assert bool(run.stderr) == bool(status)
+
+
+def changed_header(at):
+    at.path("c", "las.h").write_text("/* another */\n")
+
+
+@pytest.mark.parametrize("change, status", [(no_build, 0), (stale, 1), (changed_header, 1), (other_kit, 1), (None, 1)],
+                         ids=["the same tools", "a source", "a header", "another kit", "another linker"])
+def test_whether_the_library_would_be_compared(tmp_path, change, status):
+    """release/make --compares, by which the gate tries the released library in the place of one that it builds."""
+    needs.command("ld", "binutils")
+    at = Checkout(tmp_path)
+    if change:
+        linker = commands.good(["sh", "-c", ". release/build.sh; linker"], cwd=TOP).strip()
+        place = at.path("release", "BUILT_FROM")
+        place.write_text(place.read_text().replace("linker of a check", f"linker {linker}"))
+        change(at)
+    run = commands.quiet([at.path("release", "make"), "--compares"], env=at.with_rt())
+    assert (run.returncode, run.stdout, run.stderr) == (status, b"", b"")

@@ -260,7 +260,6 @@ def test_a_file_system_without_locks_is_no_fault(calls):
     runs.ended(calls.run(COMMANDS["las2las"][0], kind="lock", at=1, do=errno.ENOLCK), 0)
 
 
-@pytest.mark.alone
 @pytest.mark.root
 @EACH
 def test_a_full_disk_leaves_older_outputs_and_no_draft(place, small_disk, command):
@@ -280,7 +279,6 @@ def test_a_full_disk_leaves_older_outputs_and_no_draft(place, small_disk, comman
     assert disk.files() == before
 
 
-@pytest.mark.alone
 @pytest.mark.root
 @pytest.mark.parametrize("safe, held", [("1", True), (None, False)])
 def test_on_a_full_disk_the_older_output_is_lost_without_it(place, small_disk, safe, held):

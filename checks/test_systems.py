@@ -239,33 +239,61 @@ def test_workers(both, cores):
         compared(*both, ["laszip", "-i", "p.laz", "-o", "u.las", "-cores", cores])
 
 
-@pytest.mark.systems
-@pytest.mark.root
-def test_old_debian(tmp_path):
-    """The oldest Debian that is to be had, whose glibc is older than 2.34: first command, installation, las-batch."""
+@pytest.fixture(scope="module")
+def old_debian(tmp_path_factory):
+    """Runs a script in the oldest Debian that is to be had, which has this checkout as /las: its glibc is older than
+    2.34, its Python is 3.9 and its numpy 1.19."""
+    needs.root()
     needs.command("debootstrap", "debootstrap")
-    root = tmp_path / "root"
-    run = commands.quiet(["debootstrap", "--variant=minbase", "--include=python3", "bullseye", root,
+    root = tmp_path_factory.mktemp("debian") / "root"
+    run = commands.quiet(["debootstrap", "--variant=minbase", "--include=python3,python3-numpy,python3-pytest,"
+                          "python3-hypothesis,gcc,libc6-dev,binutils", "bullseye", root,
                           "http://deb.debian.org/debian"], timeout=1800)
     if run.returncode != 0:
         needs.missing("debootstrap could not fetch Debian 11", "to reach Debian's packages")
     archive = commands.quiet(["git", "-C", TOP, "ls-files", "-coz", "--exclude-standard"]).stdout.split(b"\0")
     for name in (os.fsdecode(it) for it in archive):
-        if name and (TOP / name).is_file() and not name.startswith("docs/"):
+        if name and (TOP / name).is_file():
             (root / "las" / name).parent.mkdir(parents=True, exist_ok=True)
             shutil.copy(TOP / name, root / "las" / name)
     commands.good(["mount", "-t", "proc", "proc", root / "proc"])
-    try:
-        def inside(script, status=0):
-            ran = commands.quiet(["chroot", root, "/bin/sh", "-ec", script])
-            assert ran.returncode == status, (ran.stdout + ran.stderr).decode()
-            return (ran.stdout + ran.stderr).decode()
 
-        assert "2.31" in inside("ldd --version")
-        assert inside("cd /las && ./las laszip -i examples/tile.laz -o /a.las && wc -c </a.las") == "574125\n"
-        assert inside("cd /las && ./las --version").splitlines()[-1].endswith("/las-x86-64-static")
-        inside("cd /las && ./install /opt/las && cp examples/tile.laz / && mv /las /gone")
-        inside("/opt/las/bin/las laszip -i a.las -o b.laz -cores 2 && cmp b.laz tile.laz")
-        assert "parallel" in inside("/opt/las/bin/las-batch laszip -odir /packed /a.las", 2)
-    finally:
-        commands.quiet(["umount", "-l", root / "proc"])
+    def inside(script, status=0):
+        ran = commands.quiet(["chroot", root, "/bin/sh", "-ec", script], timeout=1800)
+        assert ran.returncode == status, (ran.stdout + ran.stderr).decode()
+        return (ran.stdout + ran.stderr).decode()
+
+    yield inside
+    commands.quiet(["umount", "-l", root / "proc"])
+
+
+@pytest.mark.systems
+def test_old_debian(old_debian):
+    """First command, installation, las-batch."""
+    inside = old_debian
+    assert "2.31" in inside("ldd --version")
+    assert inside("cd /las && ./las laszip -i examples/tile.laz -o /a.las && wc -c </a.las") == "574125\n"
+    assert inside("cd /las && ./las --version").splitlines()[-1].endswith("/las-x86-64-static")
+    inside("cp -r /las /copy && cd /copy && ./install /opt/las && cp examples/tile.laz / && rm -r /copy")
+    inside("/opt/las/bin/las laszip -i a.las -o b.laz -cores 2 && cmp b.laz tile.laz")
+    assert "parallel" in inside("/opt/las/bin/las-batch laszip -odir /packed /a.las", 2)
+
+
+# names that pytest has since 6.2, for the 6.0 there
+OLDER_PYTEST = """import pytest
+from _pytest import fixtures, monkeypatch, tmpdir
+pytest.MonkeyPatch, pytest.TempPathFactory = monkeypatch.MonkeyPatch, tmpdir.TempPathFactory
+pytest.FixtureRequest = fixtures.FixtureRequest
+"""
+
+
+@pytest.mark.systems
+def test_package_for_python_in_old_debian(old_debian):
+    """The cases of the package, by Python 3.9 and numpy 1.19."""
+    old_debian(f"mkdir -p /older && cat >/older/older_pytest.py <<'END'\n{OLDER_PYTEST}END\n")
+    old_debian("gzip -dc /las/release/las-x86-64-static.gz >/program && chmod 755 /program")
+    said = old_debian("cd /las && PYTHONPATH=/older PYTHONDONTWRITEBYTECODE=1 python3 -m pytest -p older_pytest "
+                      "-c checks/pytest.ini --rootdir checks --program=/program checks/test_python_*.py "
+                      "checks/test_describe.py --alone=without")
+    passed = int(said.rpartition(" passed")[0].split()[-1])
+    assert passed > 1100

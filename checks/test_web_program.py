@@ -1,5 +1,6 @@
 """The program web/las.mjs in Node: what it prints, what it writes, and what stands when it fails."""
 import os
+import re
 import signal
 import stat
 import subprocess
@@ -198,6 +199,20 @@ def test_file_that_comes_meanwhile_stays(place, long_file):
     assert place.names() == ["b.las", "m.laz"]
 
 
+def traced(text):
+    """The calls of a trace of threads: the name, the line, and the numbers of the lines where it begins and ends."""
+    found, begun_calls = [], {}
+    for at, line in enumerate(text.splitlines()):
+        match = re.match(r"(\d+) +(?:<\.\.\. )?(\w+)(?:\(| (resumed))", line)
+        if match and match[3]:
+            found.append((match[2], *begun_calls.pop(match.group(1, 2)), at))
+        elif match and "<unfinished" in line:
+            begun_calls[match.group(1, 2)] = (line, at)
+        elif match:
+            found.append((match[2], line, at, at))
+    return sorted(found, key=lambda call: call[2])
+
+
 def test_file_is_synced_before_it_has_its_name_and_the_folder_after(place):
     needs.command("strace", "strace")
     calls = "trace=openat,fsync,link,linkat,rename,renameat2,unlink,unlinkat"
@@ -206,10 +221,10 @@ def test_file_is_synced_before_it_has_its_name_and_the_folder_after(place):
     if b"ptrace" in done.stderr:
         needs.missing("strace may not trace here", "to be allowed to trace")
     assert done.returncode == 0, done.stderr
-    lines = [line for line in place.read("trace").decode().splitlines() if ".part" in line or "fsync" in line]
-    kinds = [line.split("(")[0].split()[-1] for line in lines if "resumed" not in line and "unfinished" not in line]
-    at = {kind: kinds.index(kind) for kind in set(kinds)}
-    assert at["openat"] < at["fsync"] < at["link"] < at["unlink"]
-    assert kinds[-1] == "fsync"
-    assert str(place.folder) in lines[-1]
+    calls = [call for call in traced(place.read("trace").decode()) if call[0] == "fsync" or ".part" in call[1]]
+    first = {name: (begins, ends) for name, _, begins, ends in reversed(calls)}
+    for one, next_one in (("openat", "fsync"), ("fsync", "link"), ("link", "unlink")):
+        assert first[one][1] < first[next_one][0], (one, next_one)
+    assert calls[-1][0] == "fsync"
+    assert str(place.folder) in calls[-1][1]
     assert Path(place.folder, "b.las").exists()

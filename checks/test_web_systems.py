@@ -2,6 +2,7 @@
 import gzip
 import os
 import random
+import re
 import subprocess
 
 import pytest
@@ -14,21 +15,25 @@ from programs import TOP
 ARCHIVES = {
     "windows": "liblaz-x86_64-pc-windows-gnu.a", "macOS on Intel": "liblaz-x86_64-apple-macosx11-untried.a",
     "macOS on Apple silicon": "liblaz-aarch64-apple-macosx11-untried.a"}
-CALLS = {"laz_c_" + name for name in ("version", "need", "head", "chunks", "table", "room", "unpack", "pack", "vlr",
-                                      "table_room", "table_of")}
+# all but those that need POSIX
+CALLS = {name for name in re.findall(r"^(?! \*)[a-z].*?\b(laz_\w+)\(", (TOP / "c" / "las.h").read_text(), re.MULTILINE)
+         if not name.endswith("_path")}
 
 
-def member(data: bytes) -> bytes:
-    """The object of an archive: the last of its members, of which the others are lists of names."""
+def objects(data: bytes) -> dict[str, bytes]:
+    """The objects of an archive, by name. Its other members are lists of names."""
     assert data[:8] == b"!<arch>\n"
-    at, last = 8, b""
+    at, found = 8, {}
     while at < len(data):
         name, size = data[at:at + 16].decode().strip(), int(data[at + 48:at + 58])
-        last = data[at + 60:at + 60 + size]
+        member = data[at + 60:at + 60 + size]
         if name.startswith("#1/"):  # the name stands before the bytes
-            last = last[int(name[3:]):]
+            length = int(name[3:])
+            name, member = member[:length].rstrip(b"\0").decode(), member[length:]
+        if name.rstrip("/").endswith(".o"):
+            found[name.rstrip("/")] = member
         at += 60 + size + size % 2
-    return last
+    return found
 
 
 @pytest.mark.parametrize("name", ARCHIVES)
@@ -36,24 +41,27 @@ def test_archive_is_of_its_system_and_has_each_call(name):
     data = gzip.decompress((TOP / "release" / f"{ARCHIVES[name]}.gz").read_bytes())
     begins = {"windows": b"\x64\x86", "macOS on Intel": b"\xcf\xfa\xed\xfe\x07\0\0\x01",
               "macOS on Apple silicon": b"\xcf\xfa\xed\xfe\x0c\0\0\x01"}
-    assert member(data).startswith(begins[name])
-    for call in CALLS:
-        assert call.encode() in data, call
+    found = objects(data)
+    assert sorted(found) == ["laz.o", "laz_reader.o", "laz_writer.o"]
+    assert [one for one, member in found.items() if not member.startswith(begins[name])] == []
+    assert len(CALLS) == 25
+    assert [call for call in CALLS if call.encode() not in data] == []
     assert b"/tmp/" not in data
 
 
 @pytest.fixture(scope="module")
 def programs(tmp_path_factory):
-    """checks/portable_cases.c over the library of Linux, and over that of Windows."""
+    """checks/portable_cases.c and checks/portable_files.c over the library of Linux, and over that of Windows."""
     compiler = needs.command("x86_64-w64-mingw32-gcc", "gcc-mingw-w64-x86-64")
     folder = tmp_path_factory.mktemp("programs")
     (folder / "liblaz.a").write_bytes(gzip.decompress((TOP / "release" / f"{ARCHIVES['windows']}.gz").read_bytes()))
-    flags = ["-std=c11", "-O2", "-Wall", "-Wextra", "-Werror", f"-I{TOP / 'c'}", TOP / "checks" / "portable_cases.c"]
-    commands.good([compiler, *flags, folder / "liblaz.a", "-o", folder / "cases.exe"])
-    commands.good([compiler, "-O2", f"-I{TOP / 'c'}", TOP / "c" / "heights.c", folder / "liblaz.a", "-o",
-                   folder / "heights.exe"])
+    flags = ["-std=c11", "-O2", "-Wall", "-Wextra", "-Werror", f"-I{TOP / 'c'}"]
+    commands.good([compiler, *flags, TOP / "c" / "heights_io.c", folder / "liblaz.a", "-o", folder / "heights.exe"])
     native = library_files.library(tmp_path_factory) / "liblaz.a"
-    commands.good([needs.command("gcc", "gcc"), *flags, native, "-o", folder / "cases"])
+    for name in ("cases", "files"):
+        source = TOP / "checks" / f"portable_{name}.c"
+        commands.good([compiler, *flags, source, folder / "liblaz.a", "-o", folder / f"{name}.exe"])
+        commands.good([needs.command("gcc", "gcc"), *flags, source, native, "-pthread", "-o", folder / name])
     return folder
 
 
@@ -69,8 +77,9 @@ def under_wine(folder, *line):
     return run.stdout.decode().replace("\r\n", "\n")
 
 
-@pytest.mark.browser
-def test_windows_answers_as_linux(programs, tmp_path_factory, program):
+@pytest.fixture(scope="module")
+def count(programs, tmp_path_factory, program):
+    """The number of files whose names are in `list`, and for Windows in `windows`: 32 whole ones, and damaged ones."""
     files = library_files.plain_files(tmp_path_factory, program)
     whole = [files / f"{format_}_{extra}{kind}.laz" for format_, extra in library_files.LAYOUTS
              for kind in ("", ".counted")]
@@ -81,9 +90,34 @@ def test_windows_answers_as_linux(programs, tmp_path_factory, program):
         names.append(path)
     (programs / "list").write_text("".join(f"{name}\n" for name in names))
     (programs / "windows").write_text("".join(f"Z:{name}\n" for name in names))
+    return len(names)
+
+
+def fnv(data: bytes) -> str:
+    total = 14695981039346656037
+    for byte in data:
+        total = (total ^ byte) * 1099511628211 % 2**64
+    return f"{total:016x}"
+
+
+@pytest.mark.browser
+def test_whole_files_on_windows_are_those_of_linux(programs, count, tmp_path_factory, program):
+    """Over calls of the caller's. Of the whole files the sums are those of the files that `las` makes."""
+    wanted = commands.good([programs / "files", "list"], cwd=programs)
+    lines, files = wanted.splitlines(), library_files.plain_files(tmp_path_factory, program)
+    assert len(lines) == count
+    for (format_, extra), line in zip(library_files.LAYOUTS, lines[:32:2]):
+        plain, packed = ((files / f"{format_}_{extra}{end}").read_bytes() for end in (".las", ".laz"))
+        assert line == f"done {fnv(plain)} {fnv(packed)}"
+    assert sum(line.startswith("refused: 21 BadChunk ") for line in lines) > 50
+    assert under_wine(programs, "files.exe", "windows") == wanted
+
+
+@pytest.mark.browser
+def test_windows_answers_as_linux(programs, count):
     wanted = commands.good([programs / "cases", "list"], cwd=programs)
     lines = wanted.splitlines()
-    assert len(lines) == len(names)
+    assert len(lines) == count
     assert all(line.split()[1] == line.split()[2] for line in lines[:32])  # packed again to the same bytes
     assert sum(line.startswith("21 ") for line in lines) > 50
     assert under_wine(programs, "cases.exe", "windows") == wanted
@@ -92,4 +126,4 @@ def test_windows_answers_as_linux(programs, tmp_path_factory, program):
 @pytest.mark.browser
 def test_heights_of_the_sample(programs):
     said = under_wine(programs, "heights.exe", f"Z:{TOP / 'examples' / 'tile.laz'}")
-    assert said.startswith("points 20493\n")
+    assert said.startswith("points 20493\nraw z ")

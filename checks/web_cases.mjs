@@ -42,7 +42,7 @@ async function replay(cases) {
     });
 }
 
-// The module with at most so many pages of memory, by its section of memories: one memory, without a maximum until now.
+// The module with a maximum of `pages` pages of memory, by its section of memories: one memory, without a maximum until now.
 function limited(pages) {
     const bytes = [...module];
     let at = 8;
@@ -110,7 +110,7 @@ async function afterwards([name]) {
     return answers;
 }
 
-// A source of so many bytes that has those of a file, and zeros from where they end on; it tells what is asked for.
+// A source of `size` bytes that has those of a file, and zeros after them; it tells what is asked for.
 function counted(bytes, size) {
     const asked = [];
     return {
@@ -186,7 +186,7 @@ async function misuse([packed, plain]) {
         data: errorData(new laz.Refused(21, 3)) };
 }
 
-// Milliseconds to decode a file to arrays with so many workers, the best of some rounds. [NAME, WORKERS, ROUNDS]
+// Milliseconds to decode a file to arrays with a number of workers, the best of some rounds. [NAME, WORKERS, ROUNDS]
 async function times([name, workers, rounds]) {
     const bytes = readFileSync(name), file = await laz.open(new Blob([bytes]), { workers });
     let best = Infinity;

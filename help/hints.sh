@@ -314,7 +314,7 @@ run_with_hints() {
     # what the program says, and what tells which files were written after it
     said=$own/said marker=$own/begun
     # (a byte, so that a line has room there also when the disk is full)
-    { [ -n "$own" ] && : >"$marker" && printf . >"$said"; } 2>/dev/null || hints=
+    { [ -n "$own" ] && printf '' >"$marker" && printf . >"$said"; } 2>/dev/null || hints=
     note_there "$@"
     child=
     for name in HUP INT QUIT TERM USR1 USR2; do
@@ -328,7 +328,10 @@ run_with_hints() {
         watcher=$!
     fi
     wait_for
-    if [ -n "$watcher" ]; then kill "$watcher" 2>/dev/null && wait "$watcher"; fi
+    if [ -n "$watcher" ]; then
+        printf '' 2>/dev/null >"$own/over"
+        kill "$watcher" 2>/dev/null && wait "$watcher"
+    fi
     if [ -n "$hints" ]; then
         line=$(cat -- "$said" && echo .)
         line=${line%.} line=${line#.}

@@ -17,6 +17,16 @@ note_there() {
     there='
 '
     each_output note_one "$@"
+    if [ -n "$hints" ] && { [ ${#there} -gt 1 ] || [ "${1-}" = lassplit ]; }; then pass_marker; fi
+}
+
+# Waits until a file that is written is newer than the marker: file systems count time in steps of some milliseconds. It
+# gives up on a full disk, and after some 0.1 s if the clock was set back.
+pass_marker() {
+    turns=0
+    while [ $turns -lt 10000 ] && printf '' >"$own/later" && ! [ "$own/later" -nt "$marker" ]; do
+        turns=$((turns + 1))
+    done 2>/dev/null
 }
 
 note_one() {

@@ -60,6 +60,8 @@ is_about_to_report() {
 watch() {
     drawn='' sleeper=''
     trap 'erase_line; [ -z "$sleeper" ] || kill "$sleeper" 2>/dev/null; exit' TERM
+    # (a signal that came before the trap is lost)
+    [ ! -e "$own/over" ] || return
     pause 2
     tenths=20
     find_total "$@"
@@ -76,9 +78,10 @@ watch() {
     erase_line
 }
 
-# Waits so many seconds, or until a signal comes.
+# Waits $1 seconds, or until a signal comes. A signal that comes right after the fork does not reach `sleep`, which then
+# goes on, and is not to keep the terminal open.
 pause() {
-    sleep "$1" &
+    sleep "$1" >/dev/null 2>&1 &
     sleeper=$!
     wait $sleeper
     sleeper=

@@ -1,20 +1,21 @@
 """Coordinate reference systems, as the head of a file names them."""
 from __future__ import annotations
 
+import functools
 import re
 import struct
+from collections.abc import Sequence
 from dataclasses import dataclass
 from typing import Any, Union
 
-USER_ID = b"LASF_Projection"
-KEYS, NUMBERS, TEXTS, MATH_TRANSFORM, WKT = 34735, 34736, 34737, 2111, 2112
-"""The record IDs of VLRs that name a CRS: GeoKeys with their numbers and texts, and well-known text."""
-RECORD_IDS = frozenset((KEYS, NUMBERS, TEXTS, MATH_TRANSFORM, WKT))
+from . import crs_vlrs
+from .crs_vlrs import IS_GEOGRAPHIC, IS_PROJECTED, KEYS, WKT, CrsRecord, text_of
+from .vlrs import Vlr
 
-_MODEL, _GEOGRAPHIC, _PROJECTED, _VERTICAL = 1024, 2048, 3072, 4096
-_USER_DEFINED = 32767
+USER_ID = crs_vlrs.USER_ID.encode()
+RECORD_IDS = frozenset((KEYS, crs_vlrs.DOUBLES, crs_vlrs.ASCII, crs_vlrs.MATH_TRANSFORM, WKT))
+
 _GEOGRAPHIC_BELOW_4000 = frozenset((3819, 3821, 3824, 3889, 3906))
-_WKT_CODE = re.compile(r'(?:AUTHORITY\[\s*"EPSG"\s*,\s*"(\d+)"\s*\]|ID\[\s*"EPSG"\s*,\s*(\d+)\s*\])\s*\]\s*$')
 
 
 @dataclass(frozen=True)
@@ -79,48 +80,43 @@ def _of_number(number: int) -> Crs:
     return Crs(number, "", None, bool(pyproj.CRS.from_epsg(number).is_geographic))
 
 
+@functools.lru_cache(maxsize=None)
+def epsg_name(code: int | None) -> str | None:
+    """The name that pyproj has for a code of EPSG; None without pyproj, and for a code that it does not know."""
+    if code is None:
+        return None
+    try:
+        import pyproj
+        return str(pyproj.CRS.from_epsg(code).name)
+    except Exception:  # pyproj is not there, or broken, or does not know the code: the code stands alone
+        return None
+
+
 def _of_wkt(text: str) -> Crs:
-    text = text.strip().rstrip("\0")
+    text = text_of(text.encode())
     if not re.match(r"[A-Z_0-9]+\s*\[", text):
         raise ValueError(f"{text[:40]!r} is no well-known text of a CRS, and no EPSG number")
-    found = _WKT_CODE.search(text)
-    kind = re.match(r"[A-Z_0-9]+", text)
-    assert kind is not None
-    geographic = {"GEOGCS": True, "GEOGCRS": True, "PROJCS": False, "PROJCRS": False}.get(kind.group())
-    return Crs(int(found.group(1) or found.group(2)) if found else None, text, None, geographic)
+    return _of_record(crs_vlrs.of_wkt(text))
 
 
-def of_records(wkt: bytes | None, keys: bytes | None, prefers_wkt: bool) -> Crs | None:
-    """The CRS of a file by the payloads of its VLRs; None if they name none."""
-    if wkt is not None and (prefers_wkt or keys is None):
-        text = wkt.partition(b"\0")[0].decode("utf-8", "replace").strip()
-        if not text:
-            return None
-        try:
-            return _of_wkt(text)
-        except ValueError:
-            return Crs(None, text)
-    return _of_keys(keys) if keys is not None else None
+def _of_record(record: CrsRecord) -> Crs:
+    return Crs(record.epsg, record.wkt or "", record.vertical, record.is_geographic)
 
 
-def _of_keys(payload: bytes) -> Crs | None:
-    keys = {}
-    for at in range(8, len(payload) - 7, 8):
-        key, place, _, value = struct.unpack_from("<4H", payload, at)
-        if place == 0 and value != _USER_DEFINED:
-            keys[key] = value
-    number = keys.get(_PROJECTED) or keys.get(_GEOGRAPHIC)
-    if not number and not keys.get(_VERTICAL):
+def of_vlrs(vlrs: Sequence[Vlr], encoding: int) -> Crs | None:
+    """The CRS of a file by its VLRs and its global encoding; None if they name none."""
+    record = crs_vlrs.read_crs(crs_vlrs.payloads_of(vlrs), encoding)
+    if record is None or (record.epsg is None and record.vertical is None and record.wkt is None):
         return None
-    return Crs(number or None, "", keys.get(_VERTICAL), _PROJECTED not in keys if number else None)
+    return _of_record(record)
 
 
 def keys_of(crs: Crs) -> bytes:
     """The payload of the GeoKeys VLR for a CRS with a number."""
     if crs.epsg is None or crs.is_geographic is None:
         raise ValueError(f"GeoKeys need the EPSG number of a CRS, and whether it is geographic: {crs}")
-    keys = [(_MODEL, 2 if crs.is_geographic else 1), (1025, 1),
-            (_GEOGRAPHIC if crs.is_geographic else _PROJECTED, crs.epsg)]
+    keys = [(crs_vlrs.MODEL, IS_GEOGRAPHIC if crs.is_geographic else IS_PROJECTED), (crs_vlrs.RASTER, 1),
+            (crs_vlrs.GEOGRAPHIC if crs.is_geographic else crs_vlrs.PROJECTED, crs.epsg)]
     if crs.vertical is not None:
-        keys.append((_VERTICAL, crs.vertical))
+        keys.append((crs_vlrs.VERTICAL, crs.vertical))
     return struct.pack("<4H", 1, 1, 0, len(keys)) + b"".join(struct.pack("<4H", key, 0, 1, it) for key, it in keys)

@@ -150,7 +150,7 @@ def described(payload: bytes) -> list[ExtraBytes]:
 
 
 def by_name(fields: Iterable[ExtraBytes], room: int) -> Mapping[str, ExtraBytes]:
-    """The named fields that stand within so many extra bytes; of two with one name, the first."""
+    """The named fields that lie within the first `room` extra bytes; of two with one name, the first."""
     named: dict[str, ExtraBytes] = {}
     for field in fields:
         if field.name and 0 < field.size and field.place + field.size <= room:
@@ -159,7 +159,7 @@ def by_name(fields: Iterable[ExtraBytes], room: int) -> Mapping[str, ExtraBytes]
 
 
 def with_more(fields: list[ExtraBytes], extra: int, field: ExtraBytes) -> bytes:
-    """The payload that describes fields of so many extra bytes, and one more after them."""
+    """The payload that describes fields of `extra` bytes in all, and one more after them."""
     known = sum(it.size for it in fields)
     if known > extra:
         raise ValueError(f"the Extra Bytes VLR describes {known} bytes, and a record has {extra}")

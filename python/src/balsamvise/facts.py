@@ -10,8 +10,9 @@ from collections.abc import Sequence
 from typing import Any, Optional
 
 from . import library
+from .crs import epsg_name
+from .crs_vlrs import USER_ID, payloads_of, read_crs, text_of
 from .errors import TABLE_POINTER, Refused
-from .geokeys import PROJECTION, crs_of, text_of
 from .head import LASZIP, Head, Vlr, plain_head
 from .sources import PathSource
 
@@ -23,8 +24,8 @@ _EXTRA_TYPES = ("undocumented", "uint8", "int8", "uint16", "int16", "uint32", "i
                 "float64")
 _EXTRA_SIZES = (0, 1, 1, 2, 2, 4, 4, 8, 8, 4, 8)
 _VLR_NAMES = {
-    (PROJECTION, 34735): "GeoTIFF keys", (PROJECTION, 34736): "GeoTIFF doubles", (PROJECTION, 34737): "GeoTIFF text",
-    (PROJECTION, 2111): "math transform WKT", (PROJECTION, 2112): "coordinate system WKT",
+    (USER_ID, 34735): "GeoTIFF keys", (USER_ID, 34736): "GeoTIFF doubles", (USER_ID, 34737): "GeoTIFF text",
+    (USER_ID, 2111): "math transform WKT", (USER_ID, 2112): "coordinate system WKT",
     ("LASF_Spec", 0): "classification lookup", ("LASF_Spec", 3): "text area description",
     ("LASF_Spec", 4): "extra bytes", ("LASF_Spec", 7): "superseded", ("laszip encoded", 22204): "laszip",
     ("copc", 1): "COPC info", ("liblas", 2112): "WKT of libLAS",
@@ -172,11 +173,21 @@ def _laszip_vlr(data: bytes, raw: library.RawHead) -> Vlr:
                data[payload - 32:payload])
 
 
+def _crs(vlrs: Sequence[Vlr], encoding: int) -> Optional[dict[str, Any]]:
+    record = read_crs(payloads_of(vlrs), encoding)
+    if record is None:
+        return None
+    # a WKT has a name of its own; the texts of GeoTIFF keys are often those of the software
+    names = [epsg_name(record.epsg), record.name]
+    name = next(filter(None, reversed(names) if record.source == "WKT" else names), None)
+    return {"source": record.source, "epsg": record.epsg, "name": name, "vertical_epsg": record.vertical,
+            "unit": record.unit, "wkt": record.wkt}
+
+
 def _facts(source: PathSource, data: bytes, raw: library.RawHead, chunks: Optional[Chunks]) -> dict[str, Any]:
     head = plain_head(data, raw.laszip_start, raw.laszip_length) if chunks else Head(data)
     vlrs = list(head.vlrs)
     shown = [*vlrs, _laszip_vlr(data, raw)] if chunks else vlrs
-    projection = {vlr.record_id: vlr.payload for vlr in reversed(vlrs) if text_of(vlr.user_id) == PROJECTION}
     source_id, encoding = struct.unpack_from("<HH", data, 4)
     plain = head.offset + raw.points * raw.record_length
     return {
@@ -187,7 +198,7 @@ def _facts(source: PathSource, data: bytes, raw: library.RawHead, chunks: Option
         "header_size": raw.header_size, "offset_to_point_data": raw.offset,
         "point_data_format": raw.format, "record_length": raw.record_length, "points": raw.points,
         "points_by_return": list(head.returns), "scale": _numbers(head.scales), "offset": _numbers(head.offsets),
-        "box": _box(head), "crs": crs_of(projection, encoding), "vlrs": [_vlr_facts(vlr) for vlr in shown],
+        "box": _box(head), "crs": _crs(vlrs, encoding), "vlrs": [_vlr_facts(vlr) for vlr in shown],
         "extra_bytes": raw.extra, "extra_dimensions": _extra(vlrs), "packed": chunks is not None,
         "chunks": chunks.facts() if chunks else None, "plain_size": plain,
         "ratio": round(plain / source.size, 3), "refused_by": _refused_by(chunks),

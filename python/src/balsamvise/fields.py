@@ -246,6 +246,10 @@ class View(np.lib.mixins.NDArrayOperatorsMixin):
         if function is np.copyto and isinstance(arguments[0], View) and len(arguments) == 2 and not words:
             arguments[0][...] = arguments[1]
             return None
+        target = arguments[0] if arguments else words.get("a", words.get("arr"))
+        if function in (np.put, np.place, np.putmask) and isinstance(target, View):
+            # (the putmask of numpy 1.19 writes to a copy of an array that can't be written, and says nothing)
+            raise ValueError(f"{target.name}: np.{function.__name__} does not write to it; an assignment does")
         return function(*map(plain, arguments), **{name: plain(it) for name, it in words.items()})
 
     def __getattr__(self, name: str) -> Any:

@@ -29,7 +29,7 @@ def to_wgs84(epsg: Optional[int], wkt: Optional[str]) -> Move:
 
 
 def ring_of(facts: dict[str, Any], parts: int = 1) -> Ring:
-    """The box of a file in x and y, counter-clockwise and closed, each side in so many parts."""
+    """The box of a file in x and y, counter-clockwise and closed, each side in `parts` parts."""
     low, high = facts["box"]["min"][:2], facts["box"]["max"][:2]
     if None in low or None in high or low[0] > high[0] or low[1] > high[1]:
         raise NoFootprint("the head has no box")

@@ -12,13 +12,13 @@ from .arrays import Array
 from . import crs as crs_module
 from . import extra_bytes as extra_module
 from .crs import Crs
+from .crs_vlrs import WKT_BIT
 from .extra_bytes import ExtraBytes
 from .tally import Tally
 from .vlrs import VLR, Vlr, Vlrs
 
 _BLOCKS = (227, 227, 227, 235, 375)
 _SIZES = (20, 28, 26, 34)
-_WKT_BIT = 16
 LASZIP = (b"laszip encoded\0\0", 22204)
 """The user ID and the record ID of the laszip VLR."""
 
@@ -250,10 +250,7 @@ class Head:
     def crs(self) -> Crs | None:
         """The coordinate reference system, if a VLR names one: `head.crs.epsg` is its number, `str(head.crs)` its text.
         """
-        vlrs = self.vlrs
-        wkt, keys = (vlrs.get(crs_module.USER_ID, number) for number in (crs_module.WKT, crs_module.KEYS))
-        return crs_module.of_records(wkt.payload if wkt else None, keys.payload if keys else None,
-                                     bool(self.global_encoding & _WKT_BIT))
+        return crs_module.of_vlrs(self.vlrs, self.global_encoding)
 
     def changed(self, *, minor: int | None = None, format: int | None = None, extra: int | None = None,
                 scales: Sequence[float] | None = None, offsets: Sequence[float] | None = None,
@@ -296,7 +293,7 @@ class Head:
         struct.pack_into("<BH", data, 104, format, _SIZES[format] + extra)
 
     def _in_version(self, minor: int) -> Head:
-        """The head under another version, with its counts; bytes after the public header block stay behind it."""
+        """The head under another version, with its counts; bytes after the public header block follow it."""
         _checked_layout(self.format, self.extra, minor)
         points, returns = self.points, [*self.returns, *[0] * 15][:15]
         old, new = _BLOCKS[self.minor], _BLOCKS[minor]
@@ -329,11 +326,11 @@ class Head:
         user, encoding = crs_module.USER_ID, self.global_encoding
         if self.minor == 4 and crs.wkt:
             others.append(Vlr(user, crs_module.WKT, crs.wkt.encode() + b"\0", b"WKT of the CRS"))
-            return self._with_vlrs(others).changed(global_encoding=encoding | _WKT_BIT)
+            return self._with_vlrs(others).changed(global_encoding=encoding | WKT_BIT)
         if crs.epsg is None:
             raise ValueError("well-known text stands in LAS 1.4 alone, and this CRS has no number: use minor=4")
         others.append(Vlr(user, crs_module.KEYS, crs_module.keys_of(crs), b"GeoKeys of the CRS"))
-        return self._with_vlrs(others).changed(global_encoding=encoding & ~_WKT_BIT)
+        return self._with_vlrs(others).changed(global_encoding=encoding & ~WKT_BIT)
 
     def with_extra_bytes(self, field: ExtraBytes) -> Head:
         """With one more field of extra bytes, after all others, in the Extra Bytes VLR and in the record length."""

@@ -211,10 +211,16 @@ def unpack(format: int, extra: int, data: bytes, count: int, records: Array) -> 
     return _done(_calls().laz_c_unpack(format, extra, *_bytes(data), count, *_address(records)))
 
 
-def pack(format: int, extra: int, records: Array) -> bytes:
-    """The chunk of records, an array of structs without gaps."""
+def room_of(format: int, extra: int, count: int) -> int:
+    """How many bytes are enough for a chunk of this many records."""
+    return int(_calls().laz_c_room(format, extra, count))
+
+
+def pack(format: int, extra: int, records: Array, room: Array | None = None) -> bytes:
+    """The chunk of records, an array of structs without gaps. `room` is bytes to pack in, as many as `room_of` says."""
     calls = _calls()
-    room = np.empty(calls.laz_c_room(format, extra, len(records)), np.uint8)
+    if room is None:
+        room = np.empty(room_of(format, extra, len(records)), np.uint8)
     written = ctypes.c_size_t()
     _done(calls.laz_c_pack(format, extra, *_address(records), *_address(room), ctypes.byref(written)))
     return room[: written.value].tobytes()

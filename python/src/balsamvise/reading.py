@@ -11,9 +11,8 @@ from typing import Any, BinaryIO, Callable, Iterator, Sequence, Union, overload
 
 import numpy as np
 
-from .arrays import Array, RecordArray
-from .crew import Crew, checked_threads
 from . import library
+from .arrays import Array, RecordArray
 from .errors import BAD_CHUNK, TABLE_POINTER, Refused
 from .head import Head, plain_head
 from .points import Points, dtype_of
@@ -21,6 +20,7 @@ from .progress import Progress, Told
 from .sources import PathSource, StreamSource
 from .sums import EvenSums, Sums
 from .tally import Tally
+from .thread_pool import ThreadPool, checked_threads
 from .vlrs import Vlrs
 
 Path = Union[str, "os.PathLike[str]"]
@@ -188,9 +188,9 @@ class LasFile:
             return Tally.of(records)
 
         tally = Tally()
-        crew: Crew[Tally] = Crew(checked_threads(threads))
-        with crew:
-            for part in crew.answers(partial(of, chunks) for chunks in self._groups(0, len(self))):
+        pool: ThreadPool[Tally] = ThreadPool(checked_threads(threads))
+        with pool:
+            for part in pool.map(partial(of, chunks) for chunks in self._groups(0, len(self))):
                 tally.add([part])
         return tally
 
@@ -217,9 +217,9 @@ class LasFile:
         checked_threads(threads)
         start, stop, _ = slice(start, stop).indices(len(self))
         records = np.empty(max(stop - start, 0), self.dtype)
-        crew: Crew[int] = Crew(threads)
-        with Told(progress, len(records)) as told, crew:
-            for done in crew.answers(self._jobs(start, records)):
+        pool: ThreadPool[int] = ThreadPool(threads)
+        with Told(progress, len(records)) as told, pool:
+            for done in pool.map(self._jobs(start, records)):
                 told.add(done)
         return Points(records, self.head)
 
@@ -266,10 +266,10 @@ class LasFile:
                 yield from self._jobs(start, parts[-1])
                 start = stop
 
-        crew: Crew[int] = Crew(threads)
-        with Told(progress, len(self)) as told, crew:
+        pool: ThreadPool[int] = ThreadPool(threads)
+        with Told(progress, len(self)) as told, pool:
             there = 0
-            for done in crew.answers(jobs()):
+            for done in pool.map(jobs()):
                 there += done
                 told.add(done)
                 while parts and there >= len(parts[0]):

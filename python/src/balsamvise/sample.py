@@ -22,10 +22,10 @@ def _of_part(random: np.random.Generator, part: int, wanted: int, left: int) -> 
 
 
 def sample(source: str, target: str, points: int, *, seed: int = 0, threads: int = 1) -> int:
-    """Writes so many points of a file, chosen at random by a seed, or all if it has fewer; answers how many.
+    """Writes a number of points of a file, chosen at random by a seed, or all if it has fewer; returns the number.
 
-    Each choice of so many points is as likely as any other, for files of fewer than 10^9 points. The memory does not
-    grow with the file. The errors are those of `balsamvise.open` and `balsamvise.create`.
+    Each choice of that number of points is as likely as any other, for files of fewer than 10^9 points. The memory does
+    not grow with the file. The errors are those of `balsamvise.open` and `balsamvise.create`.
     """
     random = np.random.default_rng(seed)
     with LasFile(source) as file, create(target, file.head, threads=threads) as out:

@@ -10,13 +10,13 @@ import numpy as np
 
 from . import library
 from .arrays import Array
-from .crew import Crew, checked_threads
 from .head import LASZIP, Head
 from .outputs import Output
 from .points import Points, checked_one_scale, dtype_of, layout_of
 from .progress import Progress, Told
 from .reading import LasFile, Path
 from .tally import Tally
+from .thread_pool import ThreadPool, checked_threads
 
 CHUNK = 50_000
 """The number of points of a chunk, if none is given."""
@@ -56,6 +56,7 @@ class LasWriter:
         self._waiting = np.empty(0, self._dtype)
         self._filled = 0
         self._spare: list[Array] = []  # rooms of chunks that are written, for those to come
+        self._targets: list[Array] = []  # rooms for packed chunks, as many as threads pack at a time
         self._output: Output | None = None
         if isinstance(target, (str, os.PathLike)):
             name = os.fspath(target)
@@ -65,7 +66,7 @@ class LasWriter:
         else:
             self._packed = bool(packed)
             self._file = _stream(target)
-        self._crew: Crew[Packed] = Crew(threads)
+        self._pool: ThreadPool[Packed] = ThreadPool(threads)
         self._threads = threads
         self._told = Told(progress, total)
         self._is_open = True
@@ -150,13 +151,19 @@ class LasWriter:
     def _give(self, records: Array, room: Array | None = None) -> None:
         """Has a chunk packed, and writes those that are; `room` may be used again when this one is written."""
         def pack() -> Packed:
-            data = library.pack(self.head.format, self.head.extra, records)
+            layout = self.head.format, self.head.extra
+            try:
+                target = self._targets.pop()
+            except IndexError:
+                target = np.empty(library.room_of(*layout, self._chunk), np.uint8)
+            data = library.pack(*layout, records, target)
+            self._targets.append(target)  # it is used again, since the system takes long to give such large ones
             tally = Tally.of(records)
             if room is not None:
                 self._spare.append(room)
             return data, len(records), tally
 
-        for packed in self._crew.give(pack):
+        for packed in self._pool.submit(pack):
             self._put(*packed)
 
     def _put(self, data: bytes, count: int, tally: Tally) -> None:
@@ -181,7 +188,7 @@ class LasWriter:
                 self.write(chunk.unpacked())
             else:
                 self.points += chunk.points
-                for packed in self._crew.give(chunk.counted):
+                for packed in self._pool.submit(chunk.counted):
                     self._put(*packed)
 
     def close(self) -> None:
@@ -199,7 +206,7 @@ class LasWriter:
         if self._filled:
             self._give(self._waiting[:self._filled])
             self._filled = 0
-        for packed in self._crew.rest():
+        for packed in self._pool.drain():
             self._put(*packed)
         length = len(self._front())
         self.head = self.head.counted(self._tally, self.head.format, self.head.extra, self._bounds)
@@ -216,7 +223,7 @@ class LasWriter:
     def _leave(self, error: BaseException | None) -> None:
         """Lets the file have its name, or takes it away if there was an error."""
         self._is_open = False
-        self._crew.close()
+        self._pool.close()
         self._told.__exit__(None, None, None)
         if self._output is not None:
             self._output.__exit__(type(error) if error else None, error, None)
@@ -246,12 +253,12 @@ def create(target: Path | BinaryIO, head: Head, *, packed: bool | None = None, c
 
 
 def append(path: Path, *, threads: int = 1, progress: Progress = None) -> LasWriter:
-    """A file with more points behind those that it has, as a new file that takes the name when it is whole and synced.
+    """A file with more points after those that it has, as a new file that takes the name when it is whole and synced.
 
         with balsamvise.append("tile.laz", threads=4) as out:
             out.write(points)
 
-    A packed file's chunk table stands behind its chunks, so nothing can be added in place: the chunks are copied as
+    A packed file's chunk table follows its chunks, so nothing can be added in place: the chunks are copied as
     they stand, and a last one that is not full is packed again with what comes. All chunks are unpacked to count what
     the head says of them, and a bad one raises `Refused`. Chunks keep their size; a file of chunks with numbers of
     points of their own gets chunks of 50,000. Until the file is closed it takes the room of both files.
@@ -262,7 +269,7 @@ def append(path: Path, *, threads: int = 1, progress: Progress = None) -> LasWri
                         chunk=CHUNK if MAX_CHUNK < chunk < library.COUNTED else chunk)
         try:
             out.copy_of(file)
-            for packed in out._crew.rest():  # while the file is open
+            for packed in out._pool.drain():  # while the file is open
                 out._put(*packed)
         except BaseException as error:
             out._leave(error)

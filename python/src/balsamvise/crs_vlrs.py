@@ -1,27 +1,55 @@
-"""The coordinate reference system that a head names: by its GeoTIFF keys, or by its WKT."""
+"""The coordinate reference system that the VLRs of a head name: by GeoTIFF keys, or by well-known text (WKT)."""
 from __future__ import annotations
 
-import functools
 import re
 import struct
-from collections.abc import Mapping
-from typing import Any, Optional, Union
+from collections.abc import Mapping, Sequence
+from dataclasses import dataclass
+from typing import Optional, Union
 
-PROJECTION = "LASF_Projection"
-KEYS, DOUBLES, ASCII, WKT = 34735, 34736, 34737, 2112
+from .vlrs import Vlr
+
+USER_ID = "LASF_Projection"
+KEYS, DOUBLES, ASCII, MATH_TRANSFORM, WKT = 34735, 34736, 34737, 2111, 2112
+"""The record IDs of VLRs that name a CRS: GeoTIFF keys with their numbers and texts, and well-known text."""
 WKT_BIT = 16
 """The bit of the global encoding that says that the WKT holds, and not the GeoTIFF keys."""
+MODEL, RASTER, GEOGRAPHIC, PROJECTED, VERTICAL = 1024, 1025, 2048, 3072, 4096
+"""The GeoTIFF keys of the kind of coordinates, and of the codes of EPSG."""
+IS_PROJECTED, IS_GEOGRAPHIC = 1, 2
+"""Values of the key `MODEL`; 3 is geocentric."""
 
+_GEOGRAPHIC_UNIT, _PROJECTED_UNIT = 2054, 3076
+_CITATIONS = (3073, 1026, 2049)
 _UNITS = {9001: "metre", 9002: "foot", 9003: "US survey foot", 9036: "kilometre", 9102: "degree"}
 _USER_DEFINED = 32767
 _WORD = re.compile(r'"((?:[^"]|"")*)"|([^\s\[\](),"]+)|([\[(])|([\])])')
 _COMPOUND = ("COMPD_CS", "COMPOUNDCRS")
 _VERTICAL = ("VERT_CS", "VERTCRS", "VERTICALCRS")
-_HORIZONTAL = ("PROJCS", "PROJCRS", "PROJECTEDCRS", "GEOGCS", "GEOGCRS", "GEOGRAPHICCRS", "GEODCRS", "GEODETICCRS",
-               "GEOCCS", "LOCAL_CS", "ENGCRS", "BOUNDCRS")
+_IS_GEOGRAPHIC = {"GEOGCS": True, "GEOGCRS": True, "GEOGRAPHICCRS": True, "PROJCS": False, "PROJCRS": False,
+                  "PROJECTEDCRS": False, "GEOCCS": False}
+_HORIZONTAL = (*_IS_GEOGRAPHIC, "GEODCRS", "GEODETICCRS", "LOCAL_CS", "ENGCRS", "BOUNDCRS")
 _DEEPEST = 50
 
 Value = Union[int, str, float]
+
+
+@dataclass(frozen=True)
+class CrsRecord:
+    """What the VLRs say of the CRS. What they do not say, or what has no code, is None."""
+
+    source: str
+    """`GeoTIFF keys` or `WKT`."""
+    epsg: Optional[int] = None
+    """The EPSG code of the horizontal CRS."""
+    vertical: Optional[int] = None
+    """The EPSG code of the vertical CRS."""
+    name: Optional[str] = None
+    unit: Optional[str] = None
+    """The unit of x and y."""
+    wkt: Optional[str] = None
+    is_geographic: Optional[bool] = None
+    """Whether x and y are angles."""
 
 
 def text_of(data: bytes) -> str:
@@ -31,6 +59,11 @@ def text_of(data: bytes) -> str:
         return data.decode().strip()
     except UnicodeDecodeError:
         return data.decode("latin-1").strip()
+
+
+def payloads_of(vlrs: Sequence[Vlr]) -> dict[int, bytes]:
+    """The payloads of the VLRs of `LASF_Projection`, by record ID; of two with one ID, that of the first."""
+    return {vlr.record_id: vlr.payload for vlr in reversed(vlrs) if text_of(vlr.user_id) == USER_ID}
 
 
 def _geo_keys(records: Mapping[int, bytes]) -> dict[int, Value]:
@@ -54,17 +87,18 @@ def _code(value: Optional[Value]) -> Optional[int]:
     return value if isinstance(value, int) and value not in (0, _USER_DEFINED) else None
 
 
-def _from_keys(records: Mapping[int, bytes]) -> Optional[dict[str, Any]]:
+def _from_keys(records: Mapping[int, bytes]) -> Optional[CrsRecord]:
     keys = _geo_keys(records)
     if not keys:
         return None
-    projected = _code(keys.get(3072))
-    code = projected or _code(keys.get(2048))
-    unit = keys.get(3076) if projected or keys.get(1024) == 1 else keys.get(2054)
-    citations = [keys.get(number) for number in (3073, 1026, 2049)]
-    name = next((text for text in citations if isinstance(text, str) and text), None)
-    return {"source": "GeoTIFF keys", "epsg": code, "name": _name(code) or name, "vertical_epsg": _code(keys.get(4096)),
-            "unit": _UNITS.get(unit) if isinstance(unit, int) else None, "wkt": None}
+    # the geographic CRS below a projected one that the file defines itself is not that of x and y
+    projected = bool(keys.get(PROJECTED)) or keys.get(MODEL) == IS_PROJECTED
+    code = _code(keys.get(PROJECTED if projected else GEOGRAPHIC))
+    unit = keys.get(_PROJECTED_UNIT if projected else _GEOGRAPHIC_UNIT)
+    name = next((text for text in map(keys.get, _CITATIONS) if isinstance(text, str) and text), None)
+    geographic = None if code is None else not projected and keys.get(MODEL) in (None, 0, IS_GEOGRAPHIC)
+    return CrsRecord("GeoTIFF keys", code, _code(keys.get(VERTICAL)), name,
+                     _UNITS.get(unit) if isinstance(unit, int) else None, None, geographic)
 
 
 class Node:
@@ -118,41 +152,24 @@ def parsed(text: str) -> Optional[Node]:
     return root.nodes[0] if root.nodes and len(inside) == 1 else None
 
 
-def _from_wkt(records: Mapping[int, bytes]) -> Optional[dict[str, Any]]:
-    text = text_of(records.get(WKT, b""))
-    if not text:
-        return None
+def of_wkt(text: str) -> CrsRecord:
+    """What well-known text says. Of a text that can't be parsed nothing is known but the text."""
     root = parsed(text)
-    found: dict[str, Any] = {"source": "WKT", "epsg": None, "name": None, "vertical_epsg": None, "unit": None,
-                             "wkt": text}
     if root is None:
-        return found
+        return CrsRecord("WKT", wkt=text)
     horizontal = root.first(_HORIZONTAL) if root.word in _COMPOUND else root
     vertical = root.first(_VERTICAL)
-    unit = horizontal.first(("UNIT", "LENGTHUNIT")) if horizontal else None
-    code = horizontal.epsg if horizontal else None
-    return {**found, "epsg": code, "name": root.name or _name(code), "unit": unit.name if unit else None,
-            "vertical_epsg": vertical.epsg if vertical else None}
+    if horizontal is None:
+        return CrsRecord("WKT", None, vertical.epsg if vertical else None, root.name or None, None, text)
+    unit = horizontal.first(("UNIT", "LENGTHUNIT"))
+    return CrsRecord("WKT", horizontal.epsg, vertical.epsg if vertical else None, root.name or None,
+                     unit.name if unit else None, text, _IS_GEOGRAPHIC.get(horizontal.word))
 
 
-def crs_of(records: Mapping[int, bytes], encoding: int) -> Optional[dict[str, Any]]:
-    """The system that a head names, by the payloads of the VLRs of `LASF_Projection`, or None if it names none.
-
-    `source` is `GeoTIFF keys` or `WKT`. If a head has both, the bit of the global encoding decides. `epsg` is the code
-    of the horizontal system and `vertical_epsg` that of the vertical one, or None; `name` is that of pyproj if it is
-    there, else the text of the head, or None; `unit` is that of x and y; `wkt` is the text, or None.
+def read_crs(records: Mapping[int, bytes], encoding: int) -> Optional[CrsRecord]:
+    """The CRS that a head names, by the payloads that `payloads_of` gives, or None if it names none. If a head
+    has both GeoTIFF keys and WKT, the bit of the global encoding decides.
     """
-    by_wkt, by_keys = _from_wkt(records), _from_keys(records)
+    text = text_of(records.get(WKT, b""))
+    by_wkt, by_keys = of_wkt(text) if text else None, _from_keys(records)
     return (by_wkt or by_keys) if encoding & WKT_BIT else (by_keys or by_wkt)
-
-
-@functools.lru_cache(maxsize=None)
-def _name(code: Optional[int]) -> Optional[str]:
-    """The name that pyproj has for a code of EPSG; None without pyproj, and for a code that it does not know."""
-    if code is None:
-        return None
-    try:
-        import pyproj
-        return str(pyproj.CRS.from_epsg(code).name)
-    except Exception:  # pyproj is not there, or broken, or does not know the code: the code stands alone
-        return None
