@@ -399,7 +399,7 @@ def main(top: bytes, words: list[str]) -> int:
     batch: Optional[Batch] = None
     try:
         if words[0] in TOOLS:
-            return run_tool(find_las(top)[0] if words[0] == "manifest" else b"", words)
+            return run_tool(lambda: find_las(top)[0], words)
         batch = Batch(top, read_words(list(words)))
         return batch.go()
     except Refused as problem:

@@ -7,6 +7,7 @@ import subprocess
 import pytest
 
 import needs
+import programs
 from batch_places import Tiles
 from batch_tiles import ODD, ended
 
@@ -79,6 +80,111 @@ def test_verify_finds_what_is_lost_changed_and_new(archive):
     assert run.returncode == 1
     assert run.stdout.splitlines() == [b"lost        out/a.laz", b"changed     out/b.laz", b"new         out/new.laz",
                                        b"las-batch: 2 as they were, 1 lost, 1 changed, 1 new"]
+
+
+def packed_anew(archive, name):
+    """Packs an output again in chunks of another size: other bytes, the same points."""
+    line = [archive.program, "laszip", "-i", f"tiles/{name}.las", "-o", f"out/{name}.laz", "-chunk_size", "300"]
+    subprocess.run(line, cwd=archive.folder, check=True)
+
+
+def test_verify_tells_a_file_that_was_packed_anew_from_a_damaged_one(archive):
+    packed_anew(archive, "a")
+    archive.path("out/b.laz").write_bytes(b"LASF, but no more")
+    run = archive.batch("verify", "-manifest", "sums")
+    assert run.returncode == 1
+    assert run.stdout.splitlines() == [
+        b"changed     out/b.laz", b"packed anew out/a.laz: the same plain bytes",
+        b"las-batch: 2 as they were, 1 packed anew, 0 lost, 1 changed, 0 new"]
+    assert archive.parts() == []
+
+
+def test_verify_is_content_with_files_that_were_packed_anew(archive):
+    packed_anew(archive, "a")
+    assert archive.batch("verify", "-manifest", "sums").returncode == 0
+
+
+def test_a_file_of_other_points_is_not_packed_anew(archive):
+    archive.make("tiles/a.las", 500, seed=77)
+    packed_anew(archive, "a")
+    run = archive.batch("verify", "-manifest", "sums")
+    assert (run.returncode, run.stdout.splitlines()[0]) == (1, b"changed     out/a.laz")
+
+
+def test_verify_without_the_plain_sums_compares_what_is_packed_alone(archive):
+    packed_anew(archive, "a")
+    archive.path("sums.plain").unlink()
+    run = archive.batch("verify", "-manifest", "sums")
+    assert (run.returncode, run.stdout.splitlines()[0]) == (1, b"changed     out/a.laz")
+
+
+def test_verify_says_where_the_plain_bytes_of_a_lost_file_are(archive):
+    for name in "a", "b":
+        archive.path(f"out/{name}.laz").unlink()
+    archive.path("out/a.las").write_bytes(archive.path("tiles/a.las").read_bytes())
+    archive.path("out/b.las").write_bytes(archive.path("tiles/a.las").read_bytes())
+    run = archive.batch("verify", "-manifest", "sums")
+    assert run.returncode == 1
+    assert run.stdout.splitlines()[:2] == [b"lost        out/a.laz: out/a.las has its plain bytes",
+                                           b"lost        out/b.laz"]
+
+
+def started(archive):
+    """A program that notes each of its starts, and the starts."""
+    las = archive.command("las", f'echo "$1" >>{archive.path("starts")}\nexec {archive.program} "$@"')
+    return str(las), lambda: archive.path("starts").read_text().split().count("laszip")
+
+
+def test_verify_unpacks_a_file_that_is_as_it_was_only_if_that_is_asked_for(archive):
+    las, starts = started(archive)
+    archive.path("starts").touch()
+    ended(archive.batch("verify", "-manifest", "sums", las=las), 0)
+    assert starts() == 0
+    ended(archive.batch("verify", "-unpack", "-manifest", "sums", las=las), 0)
+    assert starts() == 4
+    assert archive.parts() == []
+
+
+def test_verify_unpack_finds_a_program_that_unpacks_something_else(archive):
+    las = archive.command("las", f'[ "$1" != --version ] || exit 1\n{archive.program} "$@" || exit\n'
+                          'case $3 in out/a.laz) printf x | dd of="$5" bs=1 seek=340 conv=notrunc status=none;; esac')
+    run = archive.batch("verify", "-unpack", "-manifest", "sums", las=str(las))
+    assert (run.returncode, run.stdout.splitlines()) == (1, [
+        b"changed     out/a.laz: it unpacks to other bytes than those of sums.plain",
+        b"las-batch: 3 as they were, 0 lost, 1 changed, 0 new"])
+
+
+def test_verify_unpack_where_it_can_not_be_done_is_not_read(archive):
+    las = archive.command("las", f'[ "$3" != out/a.laz ] || {{ echo "write fault: $5" >&2; exit 4; }}\n'
+                          f'exec {archive.program} "$@"')
+    run = archive.batch("verify", "-unpack", "-manifest", "sums", las=str(las))
+    assert (run.returncode, run.stdout.splitlines()[-1]) == (
+        1, b"las-batch: 3 as they were, 0 lost, 0 changed, 1 not read, 0 new")
+    assert run.stdout.startswith(b"not read    out/a.laz: write fault: ")
+
+
+def test_verify_unpack_without_the_plain_sums(archive):
+    archive.path("sums.plain").unlink()
+    ended(archive.batch("verify", "-unpack", "-manifest", "sums"), 2, b"sums.plain")
+
+
+def test_verify_of_plain_sums_that_are_none(archive):
+    archive.path("sums.plain").write_bytes(b"a line\n")
+    ended(archive.batch("verify", "-manifest", "sums"), 2, b"sums.plain")
+
+
+@pytest.mark.root
+def test_verify_in_a_folder_that_can_not_be_written(archive):
+    """As an archive on a disk that is mounted to be read: what is unpacked lies in TMPDIR."""
+    packed_anew(archive, "a")
+    archive.path("tmp").mkdir()
+    line = ('mount --bind "$0" "$0" && mount -o remount,bind,ro "$0" && mount -t tmpfs none "$0/tmp" && cd "$0" && '
+            'exec "$@"')
+    environment = dict(os.environ, LAS=archive.program, TMPDIR=str(archive.path("tmp")))
+    run = subprocess.run(["unshare", "-m", "sh", "-c", line, archive.folder, programs.BATCH, "verify", "-manifest",
+                          archive.path("sums")], cwd=archive.folder, env=environment, stdout=subprocess.PIPE,
+                         stderr=subprocess.PIPE, check=False)
+    assert (run.returncode, b"1 packed anew" in run.stdout) == (0, True), run.stderr
 
 
 def test_verify_of_what_is_no_manifest(archive):
