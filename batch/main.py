@@ -26,7 +26,7 @@ from .plan import Plan, Planner, check_names, check_text, key_of, look_at_all, p
 from .report import FAILED_HEAD, LOG_HEAD, Bar, Log, counts, report, write_failed
 from .state import DONE, FAILED, HIDING, MADE, TODO, Job, Run, State
 from .texts import Refused, quoted, refuse, say
-from .tools import TOOLS, run_tool
+from .tools import TOOLS, run_tool, tell_drafts
 from .words import Words, read_words
 
 TEXTS = {"log": LOG_HEAD, "failed": FAILED_HEAD}
@@ -317,6 +317,7 @@ class Batch:
 
     def start(self, run: Run, intake: Intake, todo: list[Job], bar: Bar) -> None:
         folders = list(folders_of(job.output for job in todo))
+        tell_drafts(folders)
         array = bool(run.settings["slurm"])
         guard = Guard(run.token, [] if array else folders)
         goes_on = False

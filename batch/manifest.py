@@ -2,7 +2,6 @@
 from __future__ import annotations
 
 import os
-import re
 import secrets
 import subprocess
 from typing import NamedTuple, Optional
@@ -11,8 +10,6 @@ from .files import Identity, digest, folder_of, look, write_whole
 from .plan import check_text
 from .state import Made, State
 from .texts import read_sum_line, refuse, sum_line
-
-DRAFT = re.compile(rb"\.(?:.+\.)?las-[0-9A-Za-z]+-[0-9A-Za-z]+\.(?:part|back|link\.las)")
 
 
 def check_manifest(manifest: bytes, pairs: list[tuple[bytes, bytes]],

@@ -1,15 +1,18 @@
 """Commands of las-batch itself: `verify` and `manifest` of an archive, and `clean`."""
 from __future__ import annotations
 
+import contextlib
 import fcntl
 import os
-from collections.abc import Callable
+import time
+from collections.abc import Callable, Iterable
 from concurrent.futures import ThreadPoolExecutor
 from typing import Optional, Union
 
 from .files import digest, folder_of, look
-from .manifest import DRAFT, Sums, check_manifest, is_packed, plain_name, unpacked_sum, write_sums
+from .manifest import Sums, check_manifest, is_packed, plain_name, unpacked_sum, write_sums
 from .plan import ENDINGS
+from .rows import DRAFT
 from .state import MADE, State
 from .texts import quoted, refuse, say
 from .verify import verify
@@ -138,6 +141,37 @@ def clean(top: bytes) -> int:
                 held += 1
     say(f"{removed} drafts removed, {held} are in use")
     return 0
+
+
+def tell_drafts(folders: Iterable[bytes]) -> None:
+    """Tells of drafts that no run holds locked: those of runs that were killed.
+
+    A run locks its draft right after it has made it, and must not find it locked by this, so a draft counts when it is
+    a minute old.
+    """
+    newest = time.time_ns() - 60_000_000_000
+    for folder in sorted(folders):
+        count = 0
+        with contextlib.suppress(OSError):
+            for name in filter(DRAFT.fullmatch, os.listdir(folder)):
+                path = os.path.join(folder, name)
+                there = look(path)
+                count += there is not None and there.regular() and there.mtime < newest and is_free(path)
+        if count:
+            say(f"{quoted(folder)} has {count} drafts of runs that have ended; to remove them: las-batch clean "
+                f"{quoted(folder)}")
+
+
+def is_free(path: bytes) -> bool:
+    """Whether no process holds a file locked."""
+    file = os.open(path, os.O_RDONLY | os.O_NOFOLLOW | os.O_NONBLOCK)
+    try:
+        fcntl.flock(file, fcntl.LOCK_EX | fcntl.LOCK_NB)
+    except BlockingIOError:
+        return False
+    finally:
+        os.close(file)
+    return True
 
 
 def remove_draft(path: bytes) -> bool:

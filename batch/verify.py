@@ -10,8 +10,9 @@ from concurrent.futures import ThreadPoolExecutor
 from typing import NamedTuple, Optional
 
 from .files import digest, folder_of, look
-from .manifest import DRAFT, is_packed, plain_name, read_manifest, unpacked_sum
+from .manifest import is_packed, plain_name, read_manifest, unpacked_sum
 from .plan import ENDINGS
+from .rows import DRAFT
 from .texts import quoted, refuse
 
 SAME, AGAIN, LOST, CHANGED, UNREAD, NEW = "as they were", "packed anew", "lost", "changed", "not read", "new"

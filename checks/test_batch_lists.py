@@ -3,6 +3,7 @@ import fcntl
 import hashlib
 import os
 import subprocess
+import time
 
 import pytest
 
@@ -321,6 +322,25 @@ def test_clean_removes_drafts_that_nobody_holds(tiles):
         fcntl.flock(held, fcntl.LOCK_EX)
         ended(tiles.batch("clean", "out"), 0, b"3 drafts removed, 1 are in use")
     assert sorted(tiles.outputs("out")) == sorted(kept)
+
+
+def test_drafts_that_nobody_holds_are_named_before_a_run(tiles):
+    tiles.make("tiles/a.las")
+    tiles.path("out").mkdir()
+    names = [".las-0123456789abcdef-1.part", ".b.laz.las-4711-Xy12.part", ".c.laz.las-4711-held.part",
+             ".d.laz.las-4711-new.part"]
+    for name in names:
+        tiles.path(f"out/{name}").write_bytes(b"x")
+    for name in names[:3]:  # the last one is perhaps not locked yet
+        os.utime(tiles.path(f"out/{name}"), (0, time.time() - 120))
+    line = b"las-batch: out has 2 drafts of runs that have ended; to remove them: las-batch clean out\n"
+    with open(tiles.path(f"out/{names[2]}"), "rb") as held:
+        fcntl.flock(held, fcntl.LOCK_EX)
+        ended(tiles.batch("laszip", "-odir", "out", "tiles/a.las"), 0, line)
+    assert sorted(tiles.parts()) == sorted(str(tiles.path(f"out/{name}")) for name in names)
+    tiles.batch("clean", "out")
+    tiles.make("tiles/a.las", seed=2)
+    assert b"drafts" not in tiles.batch("laszip", "-odir", "out", "tiles/a.las").stderr
 
 
 def test_clean_is_refused_while_a_run_lives(tiles):
