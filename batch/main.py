@@ -78,6 +78,8 @@ class Batch:
         self.lock = -1
 
     def go(self) -> int:
+        if not os.path.exists("/proc/self/mountinfo"):
+            refuse("/proc is not mounted: from it las-batch knows its processes and the kinds of disks")
         needed("sbatch" if self.words.has("slurm") else "parallel", *(["rsync"] if self.words.has("ship") else []))
         self.las, self.version = find_las(self.top)
         self.stop = Stop()

@@ -226,6 +226,45 @@ def test_a_bag(tiles):
         assert found == {path: hashlib.sha256(path.read_bytes()).hexdigest() for path in wanted}
 
 
+def names_in_bag(out):
+    """The names that the manifest of a bag has, and those of the files below its folder `data`."""
+    lines = (out / "manifest-sha256.txt").read_text().splitlines()
+    there = {str(path.relative_to(out)) for path in (out / "data").rglob("*") if path.is_file()}
+    return {line.partition("  ")[2] for line in lines}, there
+
+
+def test_what_stands_in_a_bag(tiles):
+    """The layout of RFC 8493: `data` holds the payload and nothing else, which the manifest has, and all else is a tag."""
+    tiles.make("tiles/a.las")
+    tiles.make("tiles/sub/b.las", seed=2)
+    ended(tiles.batch("laszip", "-odir", "out", "-bag", "-r", "tiles"), 0)
+    out = tiles.path("out")
+    assert names_in_bag(out) == ({"data/a.laz", "data/sub/b.laz"},) * 2
+    assert {path.name for path in out.iterdir()} == {
+        "data", "bagit.txt", "bag-info.txt", "manifest-sha256.txt", "tagmanifest-sha256.txt", "las-batch.log",
+        ".las-batch"}
+    tiles.make("tiles/c.las", seed=3)
+    ended(tiles.batch("laszip", "-odir", "out", "-bag", "-r", "tiles"), 0)
+    assert names_in_bag(out) == ({"data/a.laz", "data/c.laz", "data/sub/b.laz"},) * 2
+    ended(tiles.batch("verify", "-manifest", "../out/manifest-sha256.txt", cwd=out), 0, b"")
+    assert checked(tiles, "out/manifest-sha256.txt").returncode == 1  # its names are below `out`
+    run = subprocess.run(["sha256sum", "--strict", "-c", "manifest-sha256.txt", "tagmanifest-sha256.txt"], cwd=out,
+                         stdout=subprocess.PIPE, check=False)
+    assert (run.returncode, run.stdout.count(b": OK")) == (0, 6)
+
+
+def test_a_bag_with_a_draft_of_another_run_is_not_sealed(tiles):
+    tiles.make("tiles/a.las")
+    draft = tiles.path("out/data/.b.laz.las-4711-Xy12.part")
+    draft.parent.mkdir(parents=True)
+    draft.write_bytes(b"x")
+    ended(tiles.batch("laszip", "-odir", "out", "-bag", "tiles/a.las"), 1, b"is no bag yet: it has drafts")
+    assert not tiles.path("out/bagit.txt").exists()
+    draft.unlink()
+    ended(tiles.batch("laszip", "-odir", "out", "-bag", "tiles/a.las"), 0)
+    assert names_in_bag(tiles.path("out"))[0] == {"data/a.laz"}
+
+
 def test_a_bag_is_sealed_only_when_all_is_done(tiles):
     tiles.make("tiles/a.las")
     tiles.path("tiles/b.las").write_bytes(b"no tile")
