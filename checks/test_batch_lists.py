@@ -234,7 +234,7 @@ def names_in_bag(out):
 
 
 def test_what_stands_in_a_bag(tiles):
-    """The layout of RFC 8493: `data` holds the payload and nothing else, which the manifest has, and all else is a tag."""
+    """The layout of RFC 8493: `data` holds the payload, which the manifest has, and what stands beside it are tags."""
     tiles.make("tiles/a.las")
     tiles.make("tiles/sub/b.las", seed=2)
     ended(tiles.batch("laszip", "-odir", "out", "-bag", "-r", "tiles"), 0)

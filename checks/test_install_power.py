@@ -2,6 +2,7 @@
 runs, and the same line installs.
 """
 from pathlib import Path
+from typing import Optional
 
 import pytest
 
@@ -24,7 +25,7 @@ class Cuts:
             assert self.trial.install().returncode == 0
             self.trial.release(2)
         self.before = self.trial.tree()
-        self.versions = {"version 1", "version 2"} if upgrades else {"version 1", None}
+        self.versions: "set[Optional[str]]" = {"version 1", "version 2" if upgrades else None}
         disk = TreeDisk(self.trial.prefix)
         watcher = Watcher(folder, self.trial.prefix)
         done = watcher.run(str(self.trial.folder / "install"), str(self.trial.prefix), TMPDIR=str(self.trial.temporary))
