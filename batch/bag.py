@@ -6,6 +6,7 @@ import hashlib
 import os
 
 from .files import digest, look, write_whole
+from .rows import DRAFT
 from .state import State
 from .texts import quoted, say
 
@@ -38,6 +39,10 @@ def seal_bag(folder: bytes, state: State, whole: bool) -> int:
         say(f"{quoted(folder)} is no bag yet: not all outputs are done")
         return 1
     files, size = payload(folder, state)
+    if any(DRAFT.fullmatch(os.path.basename(name)) for name, _ in files):
+        say(f"{quoted(folder)} is no bag yet: it has drafts of other runs; to remove them: las-batch clean "
+            f"{quoted(folder)}")
+        return 1
     for name, _ in files:
         try:
             name.decode()

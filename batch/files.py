@@ -13,8 +13,8 @@ from typing import NamedTuple, Optional
 NO_REPLACE, EXCHANGE = 1, 2
 AT_FDCWD = -100
 UNSUPPORTED = (errno.EINVAL, errno.ENOSYS, errno.ENOTSUP)
-NETWORKS = ("nfs", "nfs4", "cifs", "smb3", "smbfs", "afs", "9p", "lustre", "gpfs", "beegfs", "fuse.sshfs",
-            "fuse.glusterfs", "fuse.rclone", "fuse.s3fs")
+NETWORKS = ("nfs", "nfs4", "cifs", "smb3", "smbfs", "afs", "9p", "lustre", "gpfs", "beegfs", "ceph",
+            "orangefs", "fuse.ceph", "fuse.sshfs", "fuse.glusterfs", "fuse.rclone", "fuse.s3fs")
 
 
 class Identity(NamedTuple):

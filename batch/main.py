@@ -26,7 +26,7 @@ from .plan import Plan, Planner, check_names, check_text, key_of, look_at_all, p
 from .report import FAILED_HEAD, LOG_HEAD, Bar, Log, counts, report, write_failed
 from .state import DONE, FAILED, HIDING, MADE, TODO, Job, Run, State
 from .texts import Refused, quoted, refuse, say
-from .tools import TOOLS, run_tool
+from .tools import TOOLS, run_tool, tell_drafts
 from .words import Words, read_words
 
 TEXTS = {"log": LOG_HEAD, "failed": FAILED_HEAD}
@@ -78,6 +78,8 @@ class Batch:
         self.lock = -1
 
     def go(self) -> int:
+        if not os.path.exists("/proc/self/mountinfo"):
+            refuse("/proc is not mounted: from it las-batch knows its processes and the kinds of disks")
         needed("sbatch" if self.words.has("slurm") else "parallel", *(["rsync"] if self.words.has("ship") else []))
         self.las, self.version = find_las(self.top)
         self.stop = Stop()
@@ -317,6 +319,7 @@ class Batch:
 
     def start(self, run: Run, intake: Intake, todo: list[Job], bar: Bar) -> None:
         folders = list(folders_of(job.output for job in todo))
+        tell_drafts(folders)
         array = bool(run.settings["slurm"])
         guard = Guard(run.token, [] if array else folders)
         goes_on = False
@@ -399,7 +402,7 @@ def main(top: bytes, words: list[str]) -> int:
     batch: Optional[Batch] = None
     try:
         if words[0] in TOOLS:
-            return run_tool(find_las(top)[0] if words[0] == "manifest" else b"", words)
+            return run_tool(lambda: find_las(top)[0], words)
         batch = Batch(top, read_words(list(words)))
         return batch.go()
     except Refused as problem:

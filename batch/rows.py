@@ -2,6 +2,7 @@
 from __future__ import annotations
 
 import os
+import re
 from decimal import Decimal, InvalidOperation
 from typing import NamedTuple, Optional
 
@@ -9,6 +10,7 @@ from .files import Identity, folder_of
 from .state import Job
 
 FIELDS = 13
+DRAFT = re.compile(rb"\.(?:.+\.)?las-[0-9A-Za-z]+-[0-9A-Za-z]+\.(?:part|back|link\.las)")
 
 
 class Row(NamedTuple):

@@ -4,31 +4,32 @@ from __future__ import annotations
 import contextlib
 import fcntl
 import os
-import re
-from collections.abc import Callable
+import time
+from collections.abc import Callable, Iterable
 from concurrent.futures import ThreadPoolExecutor
 from typing import Optional, Union
 
 from .files import digest, folder_of, look
-from .manifest import Sums, check_manifest, is_packed, plain_name, read_manifest, unpacked_sum, write_sums
+from .manifest import Sums, check_manifest, is_packed, plain_name, unpacked_sum, write_sums
 from .plan import ENDINGS
+from .rows import DRAFT
 from .state import MADE, State
 from .texts import quoted, refuse, say
+from .verify import verify
 
-DRAFT = re.compile(rb"\.(?:.+\.)?las-[0-9A-Za-z]+-[0-9A-Za-z]+\.(?:part|back|link\.las)")
 TOOLS = ("verify", "manifest", "clean")
 
 
 def read_words(words: list[str]) -> tuple[dict[str, bytes], list[bytes]]:
-    """Options with values, and the other words; -r is a word that `manifest` takes."""
+    """Options with values, and the other words; -r is a word that `manifest` takes, -unpack one of `verify`."""
     values: dict[str, bytes] = {}
     rest = []
     while words:
         word = words.pop(0)
         if word in ("-manifest", "-jobs") and words:
             values[word[1:]] = os.fsencode(words.pop(0))
-        elif word == "-r":
-            values["r"] = b"yes"
+        elif word in ("-r", "-unpack"):
+            values[word[1:]] = b"yes"
         elif word.startswith("-"):
             refuse(f"{word}: no such option here")
         else:
@@ -36,7 +37,8 @@ def read_words(words: list[str]) -> tuple[dict[str, bytes], list[bytes]]:
     return values, rest
 
 
-def run_tool(las: bytes, words: list[str]) -> int:
+def run_tool(find: Callable[[], bytes], words: list[str]) -> int:
+    """`find` answers the program `las`, which not all of this needs."""
     name, (values, rest) = words[0], read_words(words[1:])
     jobs = int(values.get("jobs", b"%d" % len(os.sched_getaffinity(0))))
     if name == "clean":
@@ -47,11 +49,11 @@ def run_tool(las: bytes, words: list[str]) -> int:
         refuse(f"{name} needs -manifest FILE")
     if name == "verify":
         if rest or "r" in values:
-            refuse("verify takes -manifest FILE alone")
-        return verify(values["manifest"], jobs)
-    if len(rest) != 1 or not os.path.isdir(rest[0]) or "r" not in values:
+            refuse("verify takes -manifest FILE and -unpack alone")
+        return verify(values["manifest"], jobs, "unpack" in values, find)
+    if len(rest) != 1 or not os.path.isdir(rest[0]) or "r" not in values or "unpack" in values:
         refuse("manifest takes -r FOLDER -manifest FILE")
-    return make_manifest(las, rest[0].rstrip(b"/") or b"/", values["manifest"], jobs)
+    return make_manifest(find(), rest[0].rstrip(b"/") or b"/", values["manifest"], jobs)
 
 
 def files_below(folder: bytes) -> list[bytes]:
@@ -71,47 +73,6 @@ def tried(call: Callable[[bytes], Sums], names: list[bytes], jobs: int) -> list[
             return problem
     with ThreadPoolExecutor(max(1, jobs)) as pool:
         return list(pool.map(one, names))
-
-
-def verify(manifest: bytes, jobs: int) -> int:
-    """Reads all files of a manifest back from the disk: which are lost, changed, or new beside them."""
-    wanted = read_manifest(manifest)
-    names = list(wanted)
-    lost, changed = [], []
-    found = tried(lambda name: Sums(name, digest(name, from_disk=True)[1], None), names, jobs)
-    for name, sums in zip(names, found):
-        if isinstance(sums, Sums):
-            if sums.total != wanted[name]:
-                changed.append(quoted(name))
-        elif look_safely(name):
-            changed.append(f"{quoted(name)}: {sums.strerror or sums}")
-        else:
-            lost.append(quoted(name))
-    new = [quoted(name) for name in new_beside(names)]
-    for what, listed in (("lost", lost), ("changed", changed), ("new", new)):
-        for line in listed:
-            print(f"{what:<12}{line}")
-    print(f"las-batch: {len(names) - len(lost) - len(changed)} as they were, {len(lost)} lost, {len(changed)} changed, "
-          f"{len(new)} new")
-    return 1 if lost or changed else 0
-
-
-def look_safely(name: bytes) -> bool:
-    with contextlib.suppress(OSError):
-        return look(name) is not None
-    return True
-
-
-def new_beside(names: list[bytes]) -> list[bytes]:
-    """Files of LAS and LAZ in the folders of a manifest that it does not name."""
-    known, found = {os.path.normpath(name) for name in names}, []
-    for folder in sorted({folder_of(name) for name in names}):
-        with contextlib.suppress(OSError):
-            for name in sorted(os.listdir(folder)):
-                path = os.path.normpath(os.path.join(folder, name))
-                if name[-4:].lower() in ENDINGS and not DRAFT.fullmatch(name) and path not in known:
-                    found.append(path)
-    return found
 
 
 def make_manifest(las: bytes, folder: bytes, manifest: bytes, jobs: int) -> int:
@@ -180,6 +141,37 @@ def clean(top: bytes) -> int:
                 held += 1
     say(f"{removed} drafts removed, {held} are in use")
     return 0
+
+
+def tell_drafts(folders: Iterable[bytes]) -> None:
+    """Tells of drafts that no run holds locked: those of runs that were killed.
+
+    A run locks its draft right after it has made it, and must not find it locked by this, so a draft counts when it is
+    a minute old.
+    """
+    newest = time.time_ns() - 60_000_000_000
+    for folder in sorted(folders):
+        count = 0
+        with contextlib.suppress(OSError):
+            for name in filter(DRAFT.fullmatch, os.listdir(folder)):
+                path = os.path.join(folder, name)
+                there = look(path)
+                count += there is not None and there.regular() and there.mtime < newest and is_free(path)
+        if count:
+            say(f"{quoted(folder)} has {count} drafts of runs that have ended; to remove them: las-batch clean "
+                f"{quoted(folder)}")
+
+
+def is_free(path: bytes) -> bool:
+    """Whether no process holds a file locked."""
+    file = os.open(path, os.O_RDONLY | os.O_NOFOLLOW | os.O_NONBLOCK)
+    try:
+        fcntl.flock(file, fcntl.LOCK_EX | fcntl.LOCK_NB)
+    except BlockingIOError:
+        return False
+    finally:
+        os.close(file)
+    return True
 
 
 def remove_draft(path: bytes) -> bool:

@@ -4,6 +4,7 @@
  * FAULT_FOLDER  calls that name a file below this folder, or a relative path, are counted, from 1
  * FAULT_AT      the call that is meant
  * FAULT_ERROR   the number of the error that it fails with
+ * FAULT_STAYS   so do all calls that take room on a disk, from that one on
  * FAULT_KILL    "before" or "after": the process ends by SIGKILL there
  * FAULT_RUN     a line of the shell that is run before the call
  * FAULT_LOG     a file to which the name of each counted call is added
@@ -60,6 +61,15 @@ static void run(const char *line) {
     waitpid(child, 0, 0);
 }
 
+/* Whether a call of this name takes room on a disk. */
+static int takes_room(const char *name) {
+    static const char *const names[] = {"write", "pwrite64", "fsync", "fdatasync", "mkdir", "linkat"};
+    for (size_t at = 0; at < sizeof names / sizeof *names; at++)
+        if (strcmp(name, names[at]) == 0)
+            return 1;
+    return 0;
+}
+
 /* Whether this call fails; errno is then set. `mark` is -1 if it is no counted call, else its number. */
 static int fails(const char *name, int counted, long *mark) {
     *mark = -1;
@@ -73,6 +83,10 @@ static int fails(const char *name, int counted, long *mark) {
         int length = snprintf(line, sizeof line, "%s\n", name);
         syscall(SYS_write, to, line, length);
         syscall(SYS_close, to);
+    }
+    if (at && getenv("FAULT_STAYS") && *mark >= atol(at) && takes_room(name)) {
+        errno = atoi(getenv("FAULT_ERROR"));
+        return 1;
     }
     if (!at || *mark != atol(at))
         return 0;

@@ -8,6 +8,7 @@ from batch_places import Tiles, wait_until
 
 WORDS = ["laszip", "-odir", "out", "-verify", "-delete", "tiles/a.las", "tiles/b.las"]
 TELLING = {"rename", "renameat2", "unlink", "rmdir"}
+TAKING = ["write", "pwrite64", "fsync", "fdatasync", "mkdir", "open64", "rename", "renameat2"]
 
 
 class Trials(Tiles):
@@ -110,8 +111,8 @@ class Trials(Tiles):
         left = [path for path in self.ours_hidden() if not path.endswith((".input", ".old", ".part"))]
         assert left == [], when
 
-    def error(self, at: int, number: int, when: str) -> None:
-        run = self.faulty(at=at, error=number)
+    def error(self, at: int, number: int, when: str, **fault: object) -> None:
+        run = self.faulty(at=at, error=number, **fault)
         self.nothing_is_lost(when)
         self.said_is_true(run, when)
         if run.returncode == 0:

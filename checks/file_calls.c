@@ -119,8 +119,12 @@ static int opened(int folder, const char *name, int flags, mode_t mode) {
     if (watched && counted())
         return -1;
     int fd = (int)syscall(SYS_openat, folder, name, flags, mode);
-    if (watched && fd >= 0)
-        tell(is_new ? "create" : flags & O_TRUNC ? "cut" : "open", inode(fd), path);
+    struct stat found;
+    if (watched && fd >= 0 && fstat(fd, &found) == 0) {
+        size_t length = strlen(path);
+        snprintf(path + length, sizeof path - length, "\t%o", found.st_mode & 0777);
+        tell(is_new ? "create" : flags & O_TRUNC ? "cut" : "open", (unsigned long)found.st_ino, path);
+    }
     return fd;
 }
 
@@ -191,7 +195,11 @@ static int on_fd(const char *kind, int fd, long call, const char *more, long fir
 }
 int fsync(int fd) { return on_fd("sync", fd, SYS_fsync, "", 0, 0); }
 int fdatasync(int fd) { return on_fd("sync", fd, SYS_fdatasync, "", 0, 0); }
-int fchmod(int fd, mode_t mode) { return on_fd("mode", fd, SYS_fchmod, "", (long)mode, 0); }
+int fchmod(int fd, mode_t mode) {
+    char more[32];
+    snprintf(more, sizeof more, "\t%o", mode);
+    return on_fd("mode", fd, SYS_fchmod, more, (long)mode, 0);
+}
 int fchown(int fd, uid_t user, gid_t group) { return on_fd("owner", fd, SYS_fchown, "", (long)user, (long)group); }
 int close(int fd) { return on_fd("close", fd, SYS_close, "", 0, 0); }
 static int cut_to(int fd, off_t length) {
@@ -234,3 +242,38 @@ static int removed(int folder, const char *name, int flags) {
 int unlink(const char *name) { return removed(AT_FDCWD, name, 0); }
 int remove(const char *name) { return removed(AT_FDCWD, name, 0); }
 int unlinkat(int folder, const char *name, int flags) { return removed(folder, name, flags); }
+
+/* Calls that make or take away a folder or a symbolic link, or change a mode by a name. */
+static int on_name(const char *kind, int folder, const char *name, long call, long first, const char *more) {
+    char line[8192];
+    struct stat found;
+    whole_path(folder, name, line, 4000);
+    int watched = is_below(line);
+    if (watched && counted())
+        return -1;
+    int answer = call == SYS_symlinkat ? (int)syscall(call, more, folder, name) : (int)syscall(call, folder, name, first);
+    if (watched && answer == 0) {
+        size_t length = strlen(line);
+        snprintf(line + length, sizeof line - length, "\t%s", more);
+        int known = fstatat(folder, name, &found, AT_SYMLINK_NOFOLLOW) == 0;
+        tell(kind, known ? (unsigned long)found.st_ino : 0, line);
+    }
+    return answer;
+}
+static int new_folder(int folder, const char *name, mode_t mode) {
+    return on_name("folder", folder, name, SYS_mkdirat, (long)mode, "");
+}
+int mkdir(const char *name, mode_t mode) { return new_folder(AT_FDCWD, name, mode); }
+int mkdirat(int folder, const char *name, mode_t mode) { return new_folder(folder, name, mode); }
+int rmdir(const char *name) { return removed(AT_FDCWD, name, AT_REMOVEDIR); }
+int symlink(const char *to, const char *name) { return on_name("link", AT_FDCWD, name, SYS_symlinkat, 0, to); }
+int symlinkat(const char *to, int folder, const char *name) {
+    return on_name("link", folder, name, SYS_symlinkat, 0, to);
+}
+static int new_mode(int folder, const char *name, mode_t mode) {
+    char more[32];
+    snprintf(more, sizeof more, "%o", mode);
+    return on_name("mode", folder, name, SYS_fchmodat, (long)mode, more);
+}
+int chmod(const char *name, mode_t mode) { return new_mode(AT_FDCWD, name, mode); }
+int fchmodat(int folder, const char *name, mode_t mode, int flags) { (void)flags; return new_mode(folder, name, mode); }

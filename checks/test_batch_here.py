@@ -186,6 +186,36 @@ def test_verify_and_delete(tiles):
     assert not any(tiles.path(name).exists() for name in names)
 
 
+def synced(tiles, script):
+    """A run over 40 tiles, one by one, with a script in the place of `sync`, and the drafts that each call has."""
+    tiles.command("sync", f'shift; echo "${{@##*-}}" >>{tiles.path("synced")}\n{script}')
+    run = tiles.batch("laszip", "-odir", "out", "-jobs", "1", *tiles.names(100, 140), path=str(tiles.path("bin")))
+    return run, [line.split() for line in tiles.path("synced").read_text().splitlines()]
+
+
+def test_drafts_of_small_inputs_are_synced_together(tiles):
+    run, calls = synced(tiles, 'exec /usr/bin/sync -- "$@"')
+    ended(run, 0, b"40 done, 0 not")
+    assert sorted(name for call in calls for name in call) == sorted(f"{at}.part" for at in range(1, 41))
+    assert 2 <= len(calls) <= 20
+
+
+def test_if_drafts_can_not_be_synced_together_each_is_made_again_and_synced_alone(tiles):
+    run, calls = synced(tiles, '[ $# -eq 1 ] && exec /usr/bin/sync -- "$@"; echo "sync: error" >&2; exit 1')
+    ended(run, 0, b"40 done, 0 not")
+    assert sorted(name for call in calls if len(call) == 1 for name in call) == sorted(
+        f"{at}.part" for at in range(1, 41))
+    assert tiles.outputs("out") == {f"{at}.laz": tiles.all_packed[f"{at}.laz"] for at in range(100, 140)}
+
+
+def test_a_draft_that_can_not_be_synced_gets_no_name(tiles):
+    run, _ = synced(tiles, 'for name; do case $name in *-7.part) echo "sync: error syncing: Input/output error" >&2; '
+                    'exit 1;; esac; done')
+    ended(run, 1, b"39 done, 1 not")
+    ended(run, 1, b"sync: error syncing: Input/output error")
+    assert tiles.outputs("out") == {f"{at}.laz": tiles.all_packed[f"{at}.laz"] for at in range(100, 140) if at != 106}
+
+
 @pytest.mark.root
 def test_a_full_folder_and_resume_after_there_is_room(tiles, small_disk):
     full = small_disk(300_000)

@@ -3,10 +3,12 @@ import fcntl
 import hashlib
 import os
 import subprocess
+import time
 
 import pytest
 
 import needs
+import programs
 from batch_places import Tiles
 from batch_tiles import ODD, ended
 
@@ -81,6 +83,111 @@ def test_verify_finds_what_is_lost_changed_and_new(archive):
                                        b"las-batch: 2 as they were, 1 lost, 1 changed, 1 new"]
 
 
+def packed_anew(archive, name):
+    """Packs an output again in chunks of another size: other bytes, the same points."""
+    line = [archive.program, "laszip", "-i", f"tiles/{name}.las", "-o", f"out/{name}.laz", "-chunk_size", "300"]
+    subprocess.run(line, cwd=archive.folder, check=True)
+
+
+def test_verify_tells_a_file_that_was_packed_anew_from_a_damaged_one(archive):
+    packed_anew(archive, "a")
+    archive.path("out/b.laz").write_bytes(b"LASF, but no more")
+    run = archive.batch("verify", "-manifest", "sums")
+    assert run.returncode == 1
+    assert run.stdout.splitlines() == [
+        b"changed     out/b.laz", b"packed anew out/a.laz: the same plain bytes",
+        b"las-batch: 2 as they were, 1 packed anew, 0 lost, 1 changed, 0 new"]
+    assert archive.parts() == []
+
+
+def test_verify_is_content_with_files_that_were_packed_anew(archive):
+    packed_anew(archive, "a")
+    assert archive.batch("verify", "-manifest", "sums").returncode == 0
+
+
+def test_a_file_of_other_points_is_not_packed_anew(archive):
+    archive.make("tiles/a.las", 500, seed=77)
+    packed_anew(archive, "a")
+    run = archive.batch("verify", "-manifest", "sums")
+    assert (run.returncode, run.stdout.splitlines()[0]) == (1, b"changed     out/a.laz")
+
+
+def test_verify_without_the_plain_sums_compares_what_is_packed_alone(archive):
+    packed_anew(archive, "a")
+    archive.path("sums.plain").unlink()
+    run = archive.batch("verify", "-manifest", "sums")
+    assert (run.returncode, run.stdout.splitlines()[0]) == (1, b"changed     out/a.laz")
+
+
+def test_verify_says_where_the_plain_bytes_of_a_lost_file_are(archive):
+    for name in "a", "b":
+        archive.path(f"out/{name}.laz").unlink()
+    archive.path("out/a.las").write_bytes(archive.path("tiles/a.las").read_bytes())
+    archive.path("out/b.las").write_bytes(archive.path("tiles/a.las").read_bytes())
+    run = archive.batch("verify", "-manifest", "sums")
+    assert run.returncode == 1
+    assert run.stdout.splitlines()[:2] == [b"lost        out/a.laz: out/a.las has its plain bytes",
+                                           b"lost        out/b.laz"]
+
+
+def started(archive):
+    """A program that notes each of its starts, and the starts."""
+    las = archive.command("las", f'echo "$1" >>{archive.path("starts")}\nexec {archive.program} "$@"')
+    return str(las), lambda: archive.path("starts").read_text().split().count("laszip")
+
+
+def test_verify_unpacks_a_file_that_is_as_it_was_only_if_that_is_asked_for(archive):
+    las, starts = started(archive)
+    archive.path("starts").touch()
+    ended(archive.batch("verify", "-manifest", "sums", las=las), 0)
+    assert starts() == 0
+    ended(archive.batch("verify", "-unpack", "-manifest", "sums", las=las), 0)
+    assert starts() == 4
+    assert archive.parts() == []
+
+
+def test_verify_unpack_finds_a_program_that_unpacks_something_else(archive):
+    las = archive.command("las", f'[ "$1" != --version ] || exit 1\n{archive.program} "$@" || exit\n'
+                          'case $3 in out/a.laz) printf x | dd of="$5" bs=1 seek=340 conv=notrunc status=none;; esac')
+    run = archive.batch("verify", "-unpack", "-manifest", "sums", las=str(las))
+    assert (run.returncode, run.stdout.splitlines()) == (1, [
+        b"changed     out/a.laz: it unpacks to other bytes than those of sums.plain",
+        b"las-batch: 3 as they were, 0 lost, 1 changed, 0 new"])
+
+
+def test_verify_unpack_where_it_can_not_be_done_is_not_read(archive):
+    las = archive.command("las", f'[ "$3" != out/a.laz ] || {{ echo "write fault: $5" >&2; exit 4; }}\n'
+                          f'exec {archive.program} "$@"')
+    run = archive.batch("verify", "-unpack", "-manifest", "sums", las=str(las))
+    assert (run.returncode, run.stdout.splitlines()[-1]) == (
+        1, b"las-batch: 3 as they were, 0 lost, 0 changed, 1 not read, 0 new")
+    assert run.stdout.startswith(b"not read    out/a.laz: write fault: ")
+
+
+def test_verify_unpack_without_the_plain_sums(archive):
+    archive.path("sums.plain").unlink()
+    ended(archive.batch("verify", "-unpack", "-manifest", "sums"), 2, b"sums.plain")
+
+
+def test_verify_of_plain_sums_that_are_none(archive):
+    archive.path("sums.plain").write_bytes(b"a line\n")
+    ended(archive.batch("verify", "-manifest", "sums"), 2, b"sums.plain")
+
+
+@pytest.mark.root
+def test_verify_in_a_folder_that_can_not_be_written(archive):
+    """As an archive on a disk that is mounted to be read: what is unpacked lies in TMPDIR."""
+    packed_anew(archive, "a")
+    archive.path("tmp").mkdir()
+    line = ('mount --bind "$0" "$0" && mount -o remount,bind,ro "$0" && mount -t tmpfs none "$0/tmp" && cd "$0" && '
+            'exec "$@"')
+    environment = dict(os.environ, LAS=archive.program, TMPDIR=str(archive.path("tmp")))
+    run = subprocess.run(["unshare", "-m", "sh", "-c", line, archive.folder, programs.BATCH, "verify", "-manifest",
+                          archive.path("sums")], cwd=archive.folder, env=environment, stdout=subprocess.PIPE,
+                         stderr=subprocess.PIPE, check=False)
+    assert (run.returncode, b"1 packed anew" in run.stdout) == (0, True), run.stderr
+
+
 def test_verify_of_what_is_no_manifest(archive):
     ended(archive.batch("verify", "-manifest", "out/a.laz"), 2, b"is none of a manifest")
     ended(archive.batch("verify", "-manifest", "none"), 2, b"can't be read")
@@ -117,6 +224,45 @@ def test_a_bag(tiles):
             total, _, name = line.partition("  ")
             found[out / name.replace("%0A", "\n").replace("%25", "%")] = total
         assert found == {path: hashlib.sha256(path.read_bytes()).hexdigest() for path in wanted}
+
+
+def names_in_bag(out):
+    """The names that the manifest of a bag has, and those of the files below its folder `data`."""
+    lines = (out / "manifest-sha256.txt").read_text().splitlines()
+    there = {str(path.relative_to(out)) for path in (out / "data").rglob("*") if path.is_file()}
+    return {line.partition("  ")[2] for line in lines}, there
+
+
+def test_what_stands_in_a_bag(tiles):
+    """The layout of RFC 8493: `data` holds the payload, which the manifest has, and what stands beside it are tags."""
+    tiles.make("tiles/a.las")
+    tiles.make("tiles/sub/b.las", seed=2)
+    ended(tiles.batch("laszip", "-odir", "out", "-bag", "-r", "tiles"), 0)
+    out = tiles.path("out")
+    assert names_in_bag(out) == ({"data/a.laz", "data/sub/b.laz"},) * 2
+    assert {path.name for path in out.iterdir()} == {
+        "data", "bagit.txt", "bag-info.txt", "manifest-sha256.txt", "tagmanifest-sha256.txt", "las-batch.log",
+        ".las-batch"}
+    tiles.make("tiles/c.las", seed=3)
+    ended(tiles.batch("laszip", "-odir", "out", "-bag", "-r", "tiles"), 0)
+    assert names_in_bag(out) == ({"data/a.laz", "data/c.laz", "data/sub/b.laz"},) * 2
+    ended(tiles.batch("verify", "-manifest", "../out/manifest-sha256.txt", cwd=out), 0, b"")
+    assert checked(tiles, "out/manifest-sha256.txt").returncode == 1  # its names are below `out`
+    run = subprocess.run(["sha256sum", "--strict", "-c", "manifest-sha256.txt", "tagmanifest-sha256.txt"], cwd=out,
+                         stdout=subprocess.PIPE, check=False)
+    assert (run.returncode, run.stdout.count(b": OK")) == (0, 6)
+
+
+def test_a_bag_with_a_draft_of_another_run_is_not_sealed(tiles):
+    tiles.make("tiles/a.las")
+    draft = tiles.path("out/data/.b.laz.las-4711-Xy12.part")
+    draft.parent.mkdir(parents=True)
+    draft.write_bytes(b"x")
+    ended(tiles.batch("laszip", "-odir", "out", "-bag", "tiles/a.las"), 1, b"is no bag yet: it has drafts")
+    assert not tiles.path("out/bagit.txt").exists()
+    draft.unlink()
+    ended(tiles.batch("laszip", "-odir", "out", "-bag", "tiles/a.las"), 0)
+    assert names_in_bag(tiles.path("out"))[0] == {"data/a.laz"}
 
 
 def test_a_bag_is_sealed_only_when_all_is_done(tiles):
@@ -214,6 +360,25 @@ def test_clean_removes_drafts_that_nobody_holds(tiles):
         fcntl.flock(held, fcntl.LOCK_EX)
         ended(tiles.batch("clean", "out"), 0, b"3 drafts removed, 1 are in use")
     assert sorted(tiles.outputs("out")) == sorted(kept)
+
+
+def test_drafts_that_nobody_holds_are_named_before_a_run(tiles):
+    tiles.make("tiles/a.las")
+    tiles.path("out").mkdir()
+    names = [".las-0123456789abcdef-1.part", ".b.laz.las-4711-Xy12.part", ".c.laz.las-4711-held.part",
+             ".d.laz.las-4711-new.part"]
+    for name in names:
+        tiles.path(f"out/{name}").write_bytes(b"x")
+    for name in names[:3]:  # the last one is perhaps not locked yet
+        os.utime(tiles.path(f"out/{name}"), (0, time.time() - 120))
+    line = b"las-batch: out has 2 drafts of runs that have ended; to remove them: las-batch clean out\n"
+    with open(tiles.path(f"out/{names[2]}"), "rb") as held:
+        fcntl.flock(held, fcntl.LOCK_EX)
+        ended(tiles.batch("laszip", "-odir", "out", "tiles/a.las"), 0, line)
+    assert sorted(tiles.parts()) == sorted(str(tiles.path(f"out/{name}")) for name in names)
+    tiles.batch("clean", "out")
+    tiles.make("tiles/a.las", seed=2)
+    assert b"drafts" not in tiles.batch("laszip", "-odir", "out", "tiles/a.las").stderr
 
 
 def test_clean_is_refused_while_a_run_lives(tiles):

@@ -2,6 +2,7 @@
 import os
 import shutil
 import sqlite3
+import subprocess
 import sys
 import time
 from pathlib import Path
@@ -9,6 +10,7 @@ from pathlib import Path
 import pytest
 
 import needs
+import programs
 from batch_places import Tiles
 from batch_tiles import ended
 
@@ -199,6 +201,64 @@ def test_a_state_on_another_disk(tiles):
     assert not tiles.path("out/.las-batch/state.db").exists()
     ended(tiles.batch("-resume", "-odir", "out", "-state", "elsewhere"), 0, b"3 done, 0 not")
     ended(tiles.batch("laszip", "-odir", "another", "-state", "elsewhere", *wanted), 2, b"of another folder")
+
+
+class Mounted:
+    """Runs las-batch where the system says of a folder that it is of a kind of file system."""
+
+    def __init__(self, tiles, folder, kind):
+        needs.root()
+        if not needs.runs("unshare", "-m", "true"):
+            needs.missing("a process can't have mounts of its own", "a kernel that lets root do so")
+        self.tiles, self.lines = tiles, tiles.path("mountinfo")
+        place = str(tiles.path(folder)).replace(" ", "\\040")
+        self.lines.write_text(f"36 1 8:1 / / rw,relatime shared:1 - ext4 /dev/sda1 rw\n"
+                              f"37 36 0:45 /export {place} rw,relatime shared:2 master:3 - {kind} server:/export rw\n")
+
+    def batch(self, *words):
+        """A run whose process has these lines in /proc/self/mountinfo."""
+        line = 'mount --bind "$0" "/proc/$$/mountinfo" && exec "$@"'
+        options = self.tiles.options(None, {"stdout": subprocess.PIPE, "stderr": subprocess.PIPE})
+        return subprocess.run(["unshare", "-m", "sh", "-c", line, self.lines, sys.executable, programs.BATCH, *words],
+                              check=False, timeout=120, **options)
+
+
+@pytest.mark.root
+@pytest.mark.parametrize("kind", ["nfs", "nfs4", "cifs", "9p", "lustre", "ceph", "fuse.sshfs"])
+def test_no_state_lies_on_a_file_server(tiles, kind):
+    tiles.make("tiles/a.las")
+    tiles.path("a server").mkdir()
+    server = Mounted(tiles, "a server", kind)
+    run = server.batch("laszip", "-odir", "a server/out", "tiles/a.las")
+    ended(run, 2, f"the state can't lie on a file server ({kind}): -state FOLDER names a folder of this".encode())
+    assert tiles.outputs("a server/out") == {}
+    assert not tiles.path("a server/out/.las-batch/state.db").exists()
+    ended(server.batch("laszip", "-odir", "out", "-state", "a server/state", "tiles/a.las"), 2, b"a file server")
+    words = "-odir", "a server/out", "-state", "state"
+    ended(server.batch("laszip", *words, "tiles/a.las"), 0, b"1 done, 0 not")
+    ended(server.batch("-resume", *words), 0, b"1 done, 0 not")
+    ended(server.batch("-resume", *words[:2]), 2, b"no run to go on with")
+
+
+@pytest.mark.root
+def test_a_state_on_a_disk_below_a_file_server(tiles):
+    tiles.make("tiles/a.las")
+    tiles.path("server/disk").mkdir(parents=True)
+    server = Mounted(tiles, "server", "nfs4")
+    with open(server.lines, "a", encoding="utf-8") as file:
+        file.write(f"38 37 8:2 / {tiles.path('server/disk')} rw - xfs /dev/sdb1 rw\n")
+    ended(server.batch("laszip", "-odir", "server/disk/out", "tiles/a.las"), 0, b"1 done, 0 not")
+
+
+@pytest.mark.root
+def test_without_proc_it_is_said(tiles):
+    tiles.make("tiles/a.las")
+    options = tiles.options(None, {"stdout": subprocess.PIPE, "stderr": subprocess.PIPE})
+    line = 'mount -t tmpfs none /proc && exec "$@"'
+    run = subprocess.run(["unshare", "-m", "sh", "-c", line, "sh", sys.executable, programs.BATCH, "laszip", "-odir",
+                          "out", "tiles/a.las"], check=False, timeout=120, **options)
+    ended(run, 2, b"/proc is not mounted")
+    assert not tiles.path("out").exists()
 
 
 def planned(tiles, output):

@@ -9,7 +9,7 @@ from pathlib import Path
 import pytest
 
 import needs
-from batch_trials import TELLING, Trials
+from batch_trials import TAKING, TELLING, Trials
 
 PARTS = 32  # of all calls, beside the first
 
@@ -75,12 +75,32 @@ def test_an_error_of_each_call(trials, part):
         trials.ends_well(when)
 
 
-@pytest.mark.huge
-@pytest.mark.parametrize("part", range(PARTS + 1))
-def test_a_full_disk_at_each_call(trials, part):
-    for at, when in each(trials, part):
-        trials.error(at, errno.ENOSPC, when)
+def full_disk(trials, chosen, calls, **fault):
+    for at in chosen:
+        when = f"no room at call {at} of {len(calls)}, {calls[at - 1]}"
+        trials.again()
+        trials.error(at, errno.ENOSPC, when, **fault)
         trials.ends_well(when)
+
+
+stays_full = pytest.mark.parametrize("fault", [{}, {"stays": 1}], ids=["once", "from then on"])
+
+
+@pytest.mark.slow
+@stays_full
+def test_a_full_disk_at_some_calls(trials, fault):
+    """The first and the last call of each name that takes room, and some between them."""
+    calls = trials.calls()
+    places = {name: [at for at, one in enumerate(calls, 1) if one == name] for name in TAKING}
+    full_disk(trials, sorted({one[at] for one in places.values() for at in (0, len(one) // 3, -1)}), calls, **fault)
+
+
+@pytest.mark.huge
+@stays_full
+@pytest.mark.parametrize("part", range(PARTS + 1))
+def test_a_full_disk_at_each_call(trials, part, fault):
+    calls = trials.calls()
+    full_disk(trials, those_of(part, calls), calls, **fault)
 
 
 @every_part
@@ -92,24 +112,39 @@ def test_an_input_that_is_replaced_before_each_call(trials, part):
 RESUME = ["-resume", "-odir", "out"]
 
 
-@pytest.mark.huge
-@pytest.mark.parametrize("fault", ["kill", "error"])
-@pytest.mark.parametrize("first", range(14))
-def test_a_resume_that_is_cut_off_as_well(trials, first, fault):
-    """A run is killed before one of the calls that tell; then `-resume` has a fault at each of its own."""
+def cut_off_twice(trials, first, fault, chosen):
+    """A run is killed before one of the calls that tell; then `-resume` has a fault at some of its own."""
     calls = trials.calls()
-    killed = [at for at, name in enumerate(calls, 1) if name in TELLING]
-    at = killed[first]
+    at = [at for at, name in enumerate(calls, 1) if name in TELLING][first]
     trials.again()
     trials.kill(at, "before", f"at call {at}")
     again = trials.calls(*RESUME)
-    for second in those_of(0, again, after=1) if len(again) > 200 else range(1, len(again) + 1):
+    for second in chosen(again):
         when = f"{fault} at call {second} of -resume, {again[second - 1]}, after a kill at call {at}, {calls[at - 1]}"
         trials.again()
         trials.kill(at, "before", when)
         if fault == "kill":
             trials.faulty(*RESUME, at=second, kill="before")
         else:
-            trials.said_is_true(trials.faulty(*RESUME, at=second, error=errno.EIO), when)
+            number = errno.EIO if fault == "error" else errno.ENOSPC
+            trials.said_is_true(trials.faulty(*RESUME, at=second, error=number), when)
         trials.nothing_is_lost(when)
         trials.ends_well(when)
+
+
+@pytest.mark.slow
+@pytest.mark.parametrize("fault", ["kill", "error", "full disk"])
+@pytest.mark.parametrize("first", [4, 9])
+def test_a_resume_that_is_cut_off_at_some_calls(trials, first, fault):
+    """Each third of the calls by which `-resume` gives names and takes them away."""
+    cut_off_twice(trials, first, fault,
+                  lambda again: [at for at, name in enumerate(again, 1) if name in TELLING][first % 3::3])
+
+
+@pytest.mark.huge
+@pytest.mark.parametrize("fault", ["kill", "error", "full disk"])
+@pytest.mark.parametrize("first", range(14))
+def test_a_resume_that_is_cut_off_at_each_call(trials, first, fault):
+    """At each call that tells and the one after it; at each call at all, if `-resume` has few."""
+    cut_off_twice(trials, first, fault,
+                  lambda again: those_of(0, again, after=1) if len(again) > 200 else range(1, len(again) + 1))

@@ -12,7 +12,7 @@ from programs import TOP
 
 SECONDS = 60
 
-pytestmark = [pytest.mark.kit, pytest.mark.alone, pytest.mark.huge]  # laz_c is proved once more for it
+pytestmark = pytest.mark.kit
 
 
 def needs_fuzzer() -> None:
@@ -40,6 +40,8 @@ def run_for(seconds: int, program: Path, folder: Path) -> "tuple[int, str]":
     return done.returncode, done.stderr.decode(errors="replace")
 
 
+@pytest.mark.huge
+@pytest.mark.alone
 def test_a_fault_behind_eight_bytes_is_found(tmp_path: Path) -> None:
     """The fuzzer finds what it is for: a write of one byte too many, where a chunk begins in a certain way."""
     needs_fuzzer()
@@ -63,6 +65,7 @@ def decode(tmp_path_factory: pytest.TempPathFactory) -> Path:
     return built(tmp_path_factory.mktemp("fuzz"))
 
 
+@pytest.mark.slow  # laz_c is proved once more for it, which takes more than the minute
 def test_a_minute_finds_nothing(decode: Path, tmp_path: Path) -> None:
     status, said = run_for(SECONDS, decode, tmp_path)
     assert status == 0, said[-5000:]

@@ -1,6 +1,7 @@
 """The launcher when a signal ends its program: which outputs are parts, which drafts go. And the line that shows how
 far a run is.
 """
+import fcntl
 import os
 import pty
 import select
@@ -12,6 +13,7 @@ from pathlib import Path
 import pytest
 
 import commands
+import needs
 from places import Place
 from programs import LAUNCHER, TOP
 
@@ -202,3 +204,26 @@ def test_nothing_is_left_in_the_folder_for_what_is_temporary(place: Place, tmp_p
     temporary.mkdir()
     ended(start(place, str(las), "--safe", "laszip", LAS_HINTS="1", TMPDIR=str(temporary)))
     assert os.listdir(temporary) == []
+
+
+@pytest.mark.parametrize("safe", ["", "1"])
+def test_drafts_that_nobody_holds_are_named_before_a_safe_run(tmp_path: Path, safe: str) -> None:
+    """Those that are locked, and one that is so new that it is perhaps not locked yet, are of a run that lives."""
+    needs.command("flock", "util-linux")
+    launcher = launched(tmp_path, "#!/bin/sh\nexit 0\n")
+    out = tmp_path / "out put"
+    out.mkdir()
+    names = [".b.laz.las-4711-Xy12.part", ".a.laz.las-4711-Xy13.part", ".c.laz.las-4711-held.part",
+             ".d.laz.las-4711-new.part", ".hidden.part", ".las-0123456789abcdef-1.part"]
+    for name in names:
+        (out / name).write_bytes(b"x")
+        if "new" not in name:
+            os.utime(out / name, (0, time.time() - 120))
+    line = [str(launcher), "laszip", "-i", "none.las", "-o", "out put/a.laz", "-z", "out put/b.laz"]
+    with open(out / names[2], "rb") as held:
+        fcntl.flock(held, fcntl.LOCK_EX)
+        run = subprocess.run(line, cwd=tmp_path, env={**os.environ, "LAS_SAFE": safe}, stdout=subprocess.PIPE,
+                             stderr=subprocess.PIPE, check=False)
+    wanted = f"las: '{out}' has 2 drafts of runs that have ended; to remove them: las-batch clean '{out}'\n"
+    assert (run.returncode, run.stderr.decode()) == (0, wanted if safe else "")
+    assert sorted(os.listdir(out)) == sorted(names)

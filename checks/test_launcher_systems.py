@@ -88,6 +88,30 @@ def test_program_on(tmp_path, name, start):
         assert told(at) == wanted
 
 
+NAMES_ITSELF = """#!/bin/sh
+[ $# -gt 0 ] || { echo 'usage: word 0' >&2; exit 2; }
+echo "${0##*/}"
+"""
+
+
+@pytest.mark.root
+@pytest.mark.parametrize("start", ["in a checkout", "installed"])
+def test_program_where_proc_is_not_mounted(tmp_path, start):
+    """As in a root folder of chroot: the program for any processor is taken, and in a checkout it is said why, once."""
+    if not needs.runs("unshare", "-m", "true"):
+        needs.missing("a process can't have mounts of its own", "a kernel that lets root do so")
+    at = Checkout(tmp_path, NAMES_ITSELF.encode())
+    launcher, why = at.path("las"), "las: /proc is not mounted, so the processor is taken for one of x86-64-v2\n"
+    if start == "installed":
+        launcher, why = tmp_path / "installed" / "bin" / "las", ""
+        install(at, tmp_path / "installed", NAMES_ITSELF)
+    for said in (why, ""):
+        script = '/bin/mount -t tmpfs none /proc && exec "$@"'
+        run = commands.quiet([shutil.which("unshare"), "-m", "/bin/sh", "-c", script, "sh", launcher, "laszip"],
+                             env=at.without_rt())
+        assert (run.returncode, run.stdout, run.stderr.decode()) == (0, b"las-x86-64-v2\n", said)
+
+
 def install(at, prefix, program):
     commands.good([at.path("install"), prefix], env={**at.without_rt(), "PATH": os.environ["PATH"]})
     for name in checkouts.PROGRAMS:

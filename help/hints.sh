@@ -316,6 +316,7 @@ run_with_hints() {
     # (a byte, so that a line has room there also when the disk is full)
     { [ -n "$own" ] && printf '' >"$marker" && printf . >"$said"; } 2>/dev/null || hints=
     note_there "$@"
+    [ -z "${LAS_SAFE-}" ] || tell_drafts "$@"
     child=
     for name in HUP INT QUIT TERM USR1 USR2; do
         # shellcheck disable=SC2064

@@ -104,6 +104,34 @@ remove_drafts_of() {
     done
 }
 
+# Tells of drafts beside the outputs that no run holds locked: those of runs that were killed. A run locks its draft right
+# after it has made it, and must not find it locked by this, so a draft counts when it is a minute old.
+tell_drafts() {
+    command -v flock >/dev/null || return 0
+    looked='
+'
+    each_output tell_drafts_beside "$@"
+}
+
+tell_drafts_beside() {
+    case $1 in -*) set -- "./$1" ;; esac
+    place=$(readlink -f -- "$1" && echo .) || return 0
+    place=${place%??}
+    place=${place%/*}
+    case $looked in *"
+${place:=/}
+"*) return 0 ;; esac
+    looked="$looked$place
+"
+    # (`flock NAME` would make a file)
+    # shellcheck disable=SC2016
+    count=$(find "$place" -maxdepth 1 -type f -name '.*.las-*-*.part' -mmin +1 -exec sh -c \
+        'exec 9<"$1" && flock -n 9 && echo' sh '{}' ';' 2>/dev/null | wc -l)
+    [ "$count" -gt 0 ] || return 0
+    place="'$(plain "$place")'"
+    hint "las: $place has $((count)) drafts of runs that have ended; to remove them: las-batch clean $place"
+}
+
 # Tells of names of outputs that are perhaps not what was meant.
 note_names() { each_output note_name "$@"; }
 

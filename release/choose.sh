@@ -58,6 +58,7 @@ unpacked_somewhere() {
 # sources with the sum $1. Ends with status 2 if none is for this machine, which it says.
 released() {
     [ "$(named "$top/release/BUILT_FROM" sources)" = "$1" ] || return 1
+    [ -r /proc/cpuinfo ] || say "/proc is not mounted, so the processor is taken for one of x86-64-v2"
     suiting=
     for candidate in ${LAS_PROGRAM:-$PROGRAMS}; do
         sum=$(named "$top/release/BUILT_FROM" "$candidate")
