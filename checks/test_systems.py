@@ -169,6 +169,23 @@ def test_static_program_runs_where_there_is_nothing_else(tmp_path, name):
     assert program.exists()
 
 
+def test_library_for_c_is_loaded_by_musl(program, tmp_path):
+    """A program over musl, with the released liblaz.so, reads and writes whole files by three threads."""
+    gcc = needs.command("musl-gcc", "musl-tools")
+    library = tmp_path / "liblaz.so.1"
+    library.write_bytes(systems.released("liblaz.so"))
+    commands.good([gcc, "-std=c11", "-O1", f"-I{TOP / 'c'}", "-Wl,--wrap=malloc,--wrap=calloc,--wrap=realloc",
+                   "-Wl,--allow-shlib-undefined,-rpath,$ORIGIN", TOP / "c" / "check_files.c", library, "-o",
+                   tmp_path / "files"])
+    assert b"/ld-musl-x86_64.so.1\0" in (tmp_path / "files").read_bytes()
+    sample = TOP / "examples" / "tile.laz"
+    commands.good([tmp_path / "files", "copy", sample, tmp_path / "a.las", "0", "0", "3", "1000"])
+    commands.good([tmp_path / "files", "copy", tmp_path / "a.las", tmp_path / "b.laz", "50000", "1", "3", "1000"])
+    commands.good([program, "laszip", "-i", sample, "-o", tmp_path / "c.las"])
+    assert (tmp_path / "a.las").read_bytes() == (tmp_path / "c.las").read_bytes()
+    assert (tmp_path / "b.laz").read_bytes() == sample.read_bytes()
+
+
 @pytest.mark.parametrize("name", ["las-x86-64-v2", "las-x86-64-static"])
 def test_kernel_without_statx(tmp_path, name):
     """As before Linux 4.11: the C library asks by fstatat, and the answers are the same."""
