@@ -41,8 +41,8 @@ def bytes_read(place: Place, name: str, words: Sequence[Word]) -> tuple[Any, int
     of a static program, and of one that an emulator runs."""
     needs.command("strace", "strace")
     log = place.path("strace")
-    line = ["-f", "-e", "quiet=all", "-e", "trace=read,pread64,readv,preadv,mmap", "-P", name, "-P", place.path(name),
-            "-o", log, place.program]
+    line: list[Word] = ["-f", "-e", "quiet=all", "-e", "trace=read,pread64,readv,preadv,mmap", "-P", name, "-P",
+                        place.path(name), "-o", log, place.program]
     run = place.las(*line, *words, program="strace")
     calls = log.read_text()
     log.unlink()
