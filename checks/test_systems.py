@@ -256,6 +256,35 @@ def test_workers(both, cores):
         compared(*both, ["laszip", "-i", "p.laz", "-o", "u.las", "-cores", cores])
 
 
+def processor_seconds(*words):
+    """Of a run that is done."""
+    line = [os.fspath(word) for word in words]
+    _, status, used = os.wait4(os.posix_spawn(line[0], line, os.environ), 0)
+    assert status == 0, line
+    return used.ru_utime + used.ru_stime
+
+
+@pytest.mark.systems
+@pytest.mark.alone
+@pytest.mark.parametrize("cores", ["1", "4"], ids=lambda cores: f"{cores} workers")
+@pytest.mark.parametrize("points, rounds", [(100_000, 100), (2_000_000, 25)], ids=str)
+def test_static_program_takes_at_most_2_percent_longer(tmp_path, points, rounds, cores):
+    """Over the program for x86-64-v2: the least of runs in turns, of one of three series, packing and unpacking."""
+    names = ("las-x86-64-v2", "las-x86-64-static")
+    programs = [systems.unpacked(name, tmp_path) for name in names]
+    plain, packed, output = (tmp_path / name for name in ("m.las", "m.laz", "output"))
+    commands.good([programs[0], "make", "-o", plain, "-z", packed, "-points", str(points), "-seed", "1", "-format", "1"])
+    for source in (plain, packed):
+        ratios = []
+        for _ in range(3):
+            least = [min(times) for times in zip(*(
+                [processor_seconds(program, "laszip", "-i", source, "-o", output, "-cores", cores)
+                 for program in programs] for _ in range(rounds)))]
+            ratios.append(least[1] / least[0])
+            print(f"{source.name}: {least[1]:.4f} over {least[0]:.4f} s, {ratios[-1]:.3f}")
+        assert min(ratios) <= 1.02, ratios
+
+
 @pytest.mark.systems
 @pytest.mark.root
 def test_old_debian(tmp_path):

@@ -50,8 +50,8 @@ def programs(tmp_path_factory):
     (folder / "liblaz.a").write_bytes(gzip.decompress((TOP / "release" / f"{ARCHIVES['windows']}.gz").read_bytes()))
     flags = ["-std=c11", "-O2", "-Wall", "-Wextra", "-Werror", f"-I{TOP / 'c'}", TOP / "checks" / "portable_cases.c"]
     commands.good([compiler, *flags, folder / "liblaz.a", "-o", folder / "cases.exe"])
-    commands.good([compiler, "-O2", f"-I{TOP / 'c'}", TOP / "c" / "heights.c", folder / "liblaz.a", "-o",
-                   folder / "heights.exe"])
+    whole = ["-O2", f"-I{TOP / 'c'}", TOP / "c" / "heights_stdio.c", TOP / "c" / "laz_reader.c"]
+    commands.good([compiler, *whole, folder / "liblaz.a", "-o", folder / "heights.exe"])
     native = library_files.library(tmp_path_factory) / "liblaz.a"
     commands.good([needs.command("gcc", "gcc"), *flags, native, "-o", folder / "cases"])
     return folder
@@ -92,4 +92,18 @@ def test_windows_answers_as_linux(programs, tmp_path_factory, program):
 @pytest.mark.browser
 def test_heights_of_the_sample(programs):
     said = under_wine(programs, "heights.exe", f"Z:{TOP / 'examples' / 'tile.laz'}")
-    assert said.startswith("points 20493\n")
+    assert said == "points 20493\nraw z 21494 23445\n"
+
+
+def test_heights_by_calls_of_its_own_are_those_of_the_library(tmp_path, tmp_path_factory):
+    """The example of docs/web.md, on this system."""
+    gcc, archive = needs.command("gcc", "gcc"), library_files.library(tmp_path_factory) / "liblaz.a"
+    strict = ["-std=c11", "-O2", "-Wall", "-Wextra", "-Werror", f"-I{TOP / 'c'}"]
+    (tmp_path / "cut.laz").write_bytes((TOP / "examples" / "tile.laz").read_bytes()[:50_000])
+    files, ends = [TOP / "examples" / "tile.laz", tmp_path / "cut.laz"], []
+    for name in ("heights_stdio", "heights"):
+        commands.good([gcc, *strict, TOP / "c" / f"{name}.c", archive, "-o", tmp_path / name])
+        runs = [commands.quiet([tmp_path / name, file]) for file in files]
+        ends.append([(run.returncode, run.stdout, run.stderr) for run in runs])
+    assert ends[0] == ends[1]
+    assert [status for status, _, _ in ends[0]] == [0, 2]
