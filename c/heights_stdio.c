@@ -22,11 +22,11 @@ int main(int count, char **words)
     char text[200];
     uint32_t got = 0, answer;
     FILE *stream = count == 2 ? fopen(words[1], "rb") : NULL;
-    long end = stream != NULL && fseek(stream, 0, SEEK_END) == 0 ? ftell(stream) : -1;
-    if (end < 0)
+    if (stream == NULL)
         return 3;
+    long end = fseek(stream, 0, SEEK_END) == 0 ? ftell(stream) : -1;
     io.context = stream;
-    io.size = (uint64_t)end;
+    io.size = end < 0 ? 0 : (uint64_t)end;
     io.read = read_at;
     answer = laz_reader_open(&io, NULL, &reader, &error);
     size_t size = answer == LAZ_DONE ? laz_reader_head(reader)->record_length : 0;
