@@ -273,7 +273,8 @@ def test_static_program_takes_at_most_2_percent_longer(tmp_path, points, rounds,
     names = ("las-x86-64-v2", "las-x86-64-static")
     programs = [systems.unpacked(name, tmp_path) for name in names]
     plain, packed, output = (tmp_path / name for name in ("m.las", "m.laz", "output"))
-    commands.good([programs[0], "make", "-o", plain, "-z", packed, "-points", str(points), "-seed", "1", "-format", "1"])
+    words = ["-points", str(points), "-seed", "1", "-format", "1"]
+    commands.good([programs[0], "make", "-o", plain, "-z", packed, *words])
     for source in (plain, packed):
         ratios = []
         for _ in range(3):
