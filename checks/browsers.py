@@ -7,8 +7,11 @@ import signal
 import socket
 import subprocess
 import time
+from collections.abc import Sequence
 from pathlib import Path
 from typing import Any, Optional
+
+Point = tuple[float, float]
 
 
 class Chromium:
@@ -93,8 +96,32 @@ class Chromium:
                                                 **({"text": name} if len(name) == 1 and kind == "keyDown" else {})})
 
     def click(self, x: float, y: float) -> None:
-        for kind in ("mousePressed", "mouseReleased"):
-            self.tab("Input.dispatchMouseEvent", {"type": kind, "x": x, "y": y, "button": "left", "clickCount": 1})
+        self.drag([(x, y)])
+
+    def drag(self, places: Sequence[Point], shift: bool = False) -> None:
+        """Presses the mouse at the first place, moves it over the others, and lets it go at the last."""
+        kinds = ["mousePressed", *["mouseMoved"] * (len(places) - 1), "mouseReleased"]
+        for kind, (x, y) in zip(kinds, [*places, places[-1]]):
+            self.tab("Input.dispatchMouseEvent", {"type": kind, "x": x, "y": y, "button": "left", "buttons": 1,
+                                                  "clickCount": 1, "modifiers": 8 if shift else 0})
+
+    def wheel(self, place: Point, down: float) -> None:
+        self.tab("Input.dispatchMouseEvent", {"type": "mouseWheel", "x": place[0], "y": place[1], "deltaX": 0,
+                                              "deltaY": down})
+
+    def touch(self, *fingers: Sequence[Point]) -> None:
+        """Fingers go down at their first places, move over the others together, and go up."""
+        self.tab("Emulation.setTouchEmulationEnabled", {"enabled": True, "maxTouchPoints": 5})
+        for step, places in enumerate(zip(*fingers)):
+            points = [{"x": x, "y": y, "id": number} for number, (x, y) in enumerate(places)]
+            self.tab("Input.dispatchTouchEvent", {"type": "touchMove" if step else "touchStart", "touchPoints": points})
+        self.tab("Input.dispatchTouchEvent", {"type": "touchEnd", "touchPoints": []})
+
+    def drop(self, place: Point, *files: Path) -> None:
+        """Drops files from outside on a place of the page."""
+        data = {"items": [], "files": [str(it) for it in files], "dragOperationsMask": 1}
+        for kind in ("dragEnter", "dragOver", "drop"):
+            self.tab("Input.dispatchDragEvent", {"type": kind, "x": place[0], "y": place[1], "data": data})
 
     def screenshot(self) -> bytes:
         return base64.b64decode(self.tab("Page.captureScreenshot", {"format": "png"})["data"])
@@ -197,9 +224,44 @@ class Firefox:
         self._ask("WebDriver:PerformActions", {"actions": [{"type": "key", "id": "keys", "actions": keys}]})
 
     def click(self, x: float, y: float) -> None:
-        steps: list[dict[str, Any]] = [{"type": "pointerMove", "x": round(x), "y": round(y), "duration": 0},
-                                       {"type": "pointerDown", "button": 0}, {"type": "pointerUp", "button": 0}]
-        self._ask("WebDriver:PerformActions", {"actions": [{"type": "pointer", "id": "mouse", "actions": steps}]})
+        self.drag([(x, y)])
+
+    @staticmethod
+    def _steps(places: Sequence[Point]) -> list[dict[str, Any]]:
+        moves = [{"type": "pointerMove", "x": round(x), "y": round(y), "duration": 0} for x, y in places]
+        return [moves[0], {"type": "pointerDown", "button": 0}, *moves[1:], {"type": "pointerUp", "button": 0}]
+
+    def drag(self, places: Sequence[Point], shift: bool = False) -> None:
+        """Presses the mouse at the first place, moves it over the others, and lets it go at the last."""
+        steps = self._steps(places)
+        pauses = [{"type": "pause"}] * (len(steps) - 1)
+        keys = [{"type": "keyDown", "value": "\ue008"}, *pauses, {"type": "keyUp", "value": "\ue008"}]
+        actions: list[dict[str, Any]] = [{"type": "pointer", "id": "mouse", "actions": [*steps, {"type": "pause"}]}]
+        if shift:
+            actions.append({"type": "key", "id": "keys", "actions": keys})
+        self._ask("WebDriver:PerformActions", {"actions": actions})
+
+    def wheel(self, place: Point, down: float) -> None:
+        step = {"type": "scroll", "x": round(place[0]), "y": round(place[1]), "deltaX": 0, "deltaY": round(down)}
+        self._ask("WebDriver:PerformActions", {"actions": [{"type": "wheel", "id": "wheel", "actions": [step]}]})
+
+    def touch(self, *fingers: Sequence[Point]) -> None:
+        """Fingers go down at their first places, move over the others together, and go up."""
+        actions = [{"type": "pointer", "id": f"finger{number}", "parameters": {"pointerType": "touch"},
+                    "actions": self._steps(places)} for number, places in enumerate(fingers)]
+        self._ask("WebDriver:PerformActions", {"actions": actions})
+
+    def drop(self, place: Point, *files: Path) -> None:
+        """Drops files on a place of the page. Marionette has no call for it, so the page makes the event."""
+        texts = json.dumps([[file.name, base64.b64encode(file.read_bytes()).decode()] for file in files])
+        self.value("""(() => {
+            const data = new DataTransfer();
+            for (const [name, text] of TEXTS)
+                data.items.add(new File([Uint8Array.from(atob(text), (it) => it.charCodeAt(0))], name));
+            for (const kind of ['dragover', 'drop'])
+                document.elementFromPoint(PLACE).dispatchEvent(new DragEvent(kind,
+                    { dataTransfer: data, bubbles: true, cancelable: true }));
+        })()""".replace("PLACE", f"{place[0]}, {place[1]}").replace("TEXTS", texts))
 
     def screenshot(self) -> bytes:
         return base64.b64decode(self._ask("WebDriver:TakeScreenshot", {"full": False})["value"])

@@ -8,7 +8,6 @@
  * FAULT_MOST   each read and write of a file or a stream takes at most that many bytes
  * FAULT_LOG    a file to which each write of a file is added: device, inode, position and length as 64 bits each, then
  *              the bytes
- * FAULT_READS  a file to which each read of a file is added, as these four numbers
  *
  * Close is done even if it is made to fail, as Linux does it. Calls are counted over all threads.
  */
@@ -51,21 +50,20 @@ static size_t cut(size_t count) {
     return most >= 0 && count > (size_t)most ? (size_t)most : count;
 }
 
-/* Adds a call that took or gave `count` bytes to a log, and the first of the bytes that are kept there. One write for
- * each record, so that records of two threads do not mix. */
-static void note(const char *setting, int fd, const void *bytes, size_t kept, size_t count, off_t at) {
-    const char *log = getenv(setting);
+/* Adds a write to the log. One write for each record, so that records of two threads do not mix. */
+static void note(int fd, const void *bytes, size_t count, off_t at) {
+    const char *log = getenv("FAULT_LOG");
     struct stat found;
     if (!log || fstat(fd, &found) != 0)
         return;
     uint64_t head[4] = {found.st_dev, found.st_ino, (uint64_t)at, count};
-    char *record = malloc(sizeof head + kept);
+    char *record = malloc(sizeof head + count);
     if (!record)
         abort();
     memcpy(record, head, sizeof head);
-    memcpy(record + sizeof head, bytes, kept);
+    memcpy(record + sizeof head, bytes, count);
     long to = syscall(SYS_openat, AT_FDCWD, log, O_WRONLY | O_CREAT | O_APPEND, 0666);
-    if (syscall(SYS_write, to, record, sizeof head + kept) != (long)(sizeof head + kept))
+    if (syscall(SYS_write, to, record, sizeof head + count) != (long)(sizeof head + count))
         abort();
     syscall(SYS_close, to);
     free(record);
@@ -105,10 +103,7 @@ int statx(int folder, const char *restrict path, int flags, unsigned mask, struc
     ssize_t name(int fd, void *bytes, size_t count, off_t at) {                                                        \
         if (fails("read"))                                                                                             \
             return failure();                                                                                          \
-        ssize_t done = NEXT(name)(fd, bytes, cut(count), at);                                                          \
-        if (done > 0)                                                                                                  \
-            note("FAULT_READS", fd, bytes, 0, (size_t)done, at);                                                       \
-        return done;                                                                                                   \
+        return NEXT(name)(fd, bytes, cut(count), at);                                                                  \
     }
 PREAD(pread)
 PREAD(pread64)
@@ -119,7 +114,7 @@ PREAD(pread64)
             return failure();                                                                                          \
         ssize_t done = NEXT(name)(fd, bytes, cut(count), at);                                                          \
         if (done > 0)                                                                                                  \
-            note("FAULT_LOG", fd, bytes, (size_t)done, (size_t)done, at);                                              \
+            note(fd, bytes, (size_t)done, at);                                                                         \
         return done;                                                                                                   \
     }
 PWRITE(pwrite)

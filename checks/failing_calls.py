@@ -1,6 +1,7 @@
 """Runs of the program in which calls of the C library fail, fall short or are noted, by a library that is preloaded."""
 import errno
 import os
+import re
 import struct
 import subprocess
 from collections.abc import Iterable, Sequence
@@ -13,7 +14,7 @@ import commands
 import needs
 import shared
 from las_files import long_head, record
-from places import Place
+from places import Place, Word
 from programs import TOP
 
 PACK = ["-chunk_size", "256"]
@@ -35,15 +36,18 @@ def library(tmp_path_factory: pytest.TempPathFactory) -> Path:
     return shared.once(tmp_path_factory, "failing_calls", make) / "failing_calls.so"
 
 
-def bytes_read(preloaded: Path, place: Place, name: str, words: Sequence[str]) -> tuple[Any, int]:
-    """A run of the program in a place, and how many bytes it read of the file of this name there."""
-    log = place.path("reads")
-    run = place.las(*words, env={**os.environ, "LD_PRELOAD": str(preloaded), "FAULT_READS": str(log)})
-    found = place.path(name).stat()
-    calls: Iterable[tuple[int, ...]] = struct.iter_unpack("<4Q", log.read_bytes()) if log.exists() else []
-    count = sum(length for device, inode, _, length in calls if (device, inode) == (found.st_dev, found.st_ino))
-    log.unlink(missing_ok=True)
-    return run, count
+def bytes_read(place: Place, name: str, words: Sequence[Word]) -> tuple[Any, int]:
+    """A run of the program in a place, and how many bytes it read of the file of this name there, as strace tells: also
+    of a static program, and of one that an emulator runs."""
+    needs.command("strace", "strace")
+    log = place.path("strace")
+    line: list[Word] = ["-f", "-e", "quiet=all", "-e", "trace=read,pread64,readv,preadv,mmap", "-P", name, "-P",
+                        place.path(name), "-o", log, place.program]
+    run = place.las(*line, *words, program="strace")
+    calls = log.read_text()
+    log.unlink()
+    assert "mmap(" not in calls
+    return run, sum(map(int, re.findall(r" = (\d+)$", calls, re.MULTILINE)))
 
 
 class Text:

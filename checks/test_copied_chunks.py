@@ -103,9 +103,8 @@ def test_33_files_of_copied_chunks(files):
     runs.holds(files, {"more.laz": None})
 
 
-def test_chunks_are_read_once(tmp_path_factory, files):
-    preloaded = failing_calls.library(tmp_path_factory)
+def test_chunks_are_read_once(files):
     words = ["lasmerge", "-i", "p1.laz", "-i", "a.laz", "-o", "two.laz", "-copy_chunks"]
-    run, count = failing_calls.bytes_read(preloaded, files, "a.laz", words)
+    run, count = failing_calls.bytes_read(files, "a.laz", words)
     runs.ended(run, 0)
     assert 227 <= count <= len(files.read("a.laz"))

@@ -125,11 +125,6 @@ def test_bad_chunk_under_its_new_number(bad):
     runs.holds(bad, {"b.las": counted(head(0), POINTS) + b"".join(POINTS[:1000])})
 
 
-@pytest.fixture(scope="session")
-def preloaded(tmp_path_factory):
-    return failing_calls.library(tmp_path_factory)
-
-
 @pytest.fixture
 def million(place):
     """A million points, plain and in 1,000 chunks."""
@@ -151,14 +146,14 @@ def bytes_of_chunks(place, plain, start, stop):
 @pytest.mark.parametrize("cores", ["1", "4"], ids=lambda cores: f"{cores} workers")
 @pytest.mark.parametrize("name", ["m.laz", "m.las"], ids=["packed", "plain"])
 @pytest.mark.parametrize("taken", [(450_000, 550_000), (450_500, 550_500), (999_999, 1_000_000), (7, 7)], ids=range_id)
-def test_only_what_a_range_meets_is_read_and_once(preloaded, million, taken, name, cores):
+def test_only_what_a_range_meets_is_read_and_once(million, taken, name, cores):
     place, plain, packed = million
     start, stop = taken
     bound = 227 + 227 + 20 * (stop - start)
     if name == "m.laz":
         bound = 255 + chunk_place(packed)[0] - 8 + 24 * 1000 + bytes_of_chunks(place, plain, start, stop)
     words = ["las2las", "-i", name, "-o", "b.las", "-cores", cores, *range_words(start, stop)]
-    run, count = failing_calls.bytes_read(preloaded, place, name, words)
+    run, count = failing_calls.bytes_read(place, name, words)
     runs.ended(run, 0)
     assert 227 <= count <= bound
     assert place.read("b.las")[227:] == plain[227 + 20 * start:227 + 20 * stop]

@@ -47,6 +47,16 @@ def built(at):
                                ("bin", "qemu-aarch64", QEMU)):
         at.path(folder, name).write_text(text)
         at.path(folder, name).chmod(0o755)
+    if at.path("release", "BUILT_FROM").exists():
+        tools = commands.good(["sh", "-c", '. release/build.sh && compiler'], cwd=at.path("."), env=at.with_rt())
+        made_by(at, tools.strip())
+
+
+def made_by(at, tools):
+    """Notes what tools the module of the release was made by."""
+    place = at.path("release", "BUILT_FROM")
+    place.write_text(re.sub(r"^compiler .*\n", "", place.read_text(), flags=re.MULTILINE) + f"compiler {tools}\n")
+    at.document()
 
 
 def other_v2(at):
@@ -93,6 +103,24 @@ def other_packages_and_a_bad_program(at):
     at.path("linked").write_text("#!/bin/sh\nexit 0\n")
 
 
+def other_tools(at):
+    """A module that other tools give is tried by the cases of Node."""
+    built(at)
+    made_by(at, "another one")
+    at.path("check").write_text('#!/bin/sh\n[ -s "$LAZ_MODULE" ] && [ "$1 $2" = "-k test_web_node" ]\n')
+    at.path("check").chmod(0o755)
+
+
+def other_module(at):
+    built(at)
+    at.path("release", "wasm").write_text(WASM + 'echo more >>"$2/laz.wasm"\n')
+
+
+def other_tools_and_a_bad_module(at):
+    other_tools(at)
+    at.path("check").write_text("#!/bin/sh\necho 3 failed\nexit 1\n")
+
+
 def incomplete(at):
     place = at.path("release", "BUILT_FROM")
     place.write_text(re.sub(r"^las-aarch64-static .*\n", "", place.read_text(), flags=re.MULTILINE))
@@ -113,6 +141,10 @@ STATES = {
     "other packages": (other_packages, 0, "libc6-dev (1.0 there, "),
     "other packages and a program that does not pack": (
         other_packages_and_a_bad_program, 1, "las-aarch64, linked with the packages of this machine, does not pack"),
+    "other tools": (other_tools, 0, "laz.wasm was made by another one, and here is "),
+    "other tools and a module that answers otherwise": (
+        other_tools_and_a_bad_module, 1, "laz.wasm, made by the tools of this machine, does not do what the library"),
+    "another module": (other_module, 1, "release/laz.wasm.gz is not what the library's module gives"),
     "a release without a program": (incomplete, 1, "the release has no las-aarch64-static"),
     "another program for x86-64-v2": (
         other_v2, 1, "the release for x86-64-v2 is not the program that the proved sources give"),

@@ -169,6 +169,23 @@ def test_static_program_runs_where_there_is_nothing_else(tmp_path, name):
     assert program.exists()
 
 
+def test_library_for_c_is_loaded_by_musl(program, tmp_path):
+    """A program over musl, with the released liblaz.so, reads and writes whole files by three threads."""
+    gcc = needs.command("musl-gcc", "musl-tools")
+    library = tmp_path / "liblaz.so.1"
+    library.write_bytes(systems.released("liblaz.so"))
+    commands.good([gcc, "-std=c11", "-O1", f"-I{TOP / 'c'}", "-Wl,--wrap=malloc,--wrap=calloc,--wrap=realloc",
+                   "-Wl,--allow-shlib-undefined,-rpath,$ORIGIN", TOP / "c" / "check_files.c", library, "-o",
+                   tmp_path / "files"])
+    assert b"/ld-musl-x86_64.so.1\0" in (tmp_path / "files").read_bytes()
+    sample = TOP / "examples" / "tile.laz"
+    commands.good([tmp_path / "files", "copy", sample, tmp_path / "a.las", "0", "0", "3", "1000"])
+    commands.good([tmp_path / "files", "copy", tmp_path / "a.las", tmp_path / "b.laz", "50000", "1", "3", "1000"])
+    commands.good([program, "laszip", "-i", sample, "-o", tmp_path / "c.las"])
+    assert (tmp_path / "a.las").read_bytes() == (tmp_path / "c.las").read_bytes()
+    assert (tmp_path / "b.laz").read_bytes() == sample.read_bytes()
+
+
 @pytest.mark.parametrize("name", ["las-x86-64-v2", "las-x86-64-static"])
 def test_kernel_without_statx(tmp_path, name):
     """As before Linux 4.11: the C library asks by fstatat, and the answers are the same."""
@@ -237,6 +254,36 @@ def test_workers(both, cores):
             data = place.read("p.laz")
             place.write("p.laz", data[:len(data) // 2] + bytes(64) + data[len(data) // 2 + 64:])
         compared(*both, ["laszip", "-i", "p.laz", "-o", "u.las", "-cores", cores])
+
+
+def processor_seconds(*words):
+    """Of a run that is done."""
+    line = [os.fspath(word) for word in words]
+    _, status, used = os.wait4(os.posix_spawn(line[0], line, os.environ), 0)
+    assert status == 0, line
+    return used.ru_utime + used.ru_stime
+
+
+@pytest.mark.systems
+@pytest.mark.alone
+@pytest.mark.parametrize("cores", ["1", "4"], ids=lambda cores: f"{cores} workers")
+@pytest.mark.parametrize("points, rounds", [(100_000, 100), (2_000_000, 25)], ids=str)
+def test_static_program_takes_at_most_2_percent_longer(tmp_path, points, rounds, cores):
+    """Over the program for x86-64-v2: the least of runs in turns, of one of three series, packing and unpacking."""
+    names = ("las-x86-64-v2", "las-x86-64-static")
+    programs = [systems.unpacked(name, tmp_path) for name in names]
+    plain, packed, output = (tmp_path / name for name in ("m.las", "m.laz", "output"))
+    words = ["-points", str(points), "-seed", "1", "-format", "1"]
+    commands.good([programs[0], "make", "-o", plain, "-z", packed, *words])
+    for source in (plain, packed):
+        ratios = []
+        for _ in range(3):
+            least = [min(times) for times in zip(*(
+                [processor_seconds(program, "laszip", "-i", source, "-o", output, "-cores", cores)
+                 for program in programs] for _ in range(rounds)))]
+            ratios.append(least[1] / least[0])
+            print(f"{source.name}: {least[1]:.4f} over {least[0]:.4f} s, {ratios[-1]:.3f}")
+        assert min(ratios) <= 1.02, ratios
 
 
 @pytest.fixture(scope="module")

@@ -113,7 +113,8 @@ def test_each_growth_of_memory_refused_in_turn_is_named(files):
 def test_instance_after_too_little_memory_and_after_a_trap(files):
     offset = struct.unpack_from("<I", (files / "0_0.laz").read_bytes(), 96)[0]
     assert web.answer("afterwards", [str(files / "0_0.laz")]) == {
-        "refused": "OutOfMemory", "then": offset, "trapped": "Stopped", "closed": "Stopped"}
+        "refused": "OutOfMemory", "then": offset, "full": ["OutOfMemory"] * 7, "trapped": "Stopped",
+        "closed": "Stopped"}
 
 
 def test_only_the_chunks_of_a_range_are_read(files):

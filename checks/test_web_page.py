@@ -63,6 +63,16 @@ class Tab:
     def text(self, name="tables"):
         return self.value(f"document.getElementById('{name}').textContent")
 
+    def pixels(self):
+        """The canvas as an image, to be compared with another one."""
+        return self.value("document.querySelector('#views canvas').toDataURL()")
+
+    def place(self):
+        """A place on the points of the sample, in the canvas."""
+        x, y, width, height = self.value("(() => { const it = document.querySelector('#views canvas')"
+                                         ".getBoundingClientRect(); return [it.x, it.y, it.width, it.height]; })()")
+        return x + 0.5 * width, y + 0.45 * height
+
     def picture(self, number=0):
         """The pixels of a canvas, as a count of each colour."""
         script = """(() => {
@@ -175,11 +185,64 @@ def test_keys_change_the_picture_and_home_brings_it_back(tab):
     assert tab.picture() == first
 
 
+def moved(place, across, down, steps=4):
+    """Places on a line from a place."""
+    return [(place[0] + across * step / steps, place[1] + down * step / steps) for step in range(steps + 1)]
+
+
+def test_mouse_turns_moves_and_zooms(tab):
+    tab.sample()
+    tab.choose("mode", "class")
+    place, seen = tab.place(), [tab.pixels()]
+    for act in (lambda: tab.browser.drag(moved(place, 60, 30)), lambda: tab.browser.drag(moved(place, 60, 30), True),
+                lambda: tab.browser.wheel(place, -200)):
+        act()
+        tab.choose("grain", "2")
+        seen.append(tab.pixels())
+        assert seen[-1] != seen[-2]
+    assert tab.text("record") == ""
+    tab.browser.wheel(place, 200)
+    tab.choose("grain", "2")
+    assert tab.pixels() == seen[2]
+    tab.value("void document.getElementById('reset').click()")
+    tab.choose("grain", "2")
+    assert tab.pixels() == seen[0]
+    assert tab.value("scrollY") == 0
+
+
+def test_fingers_turn_move_and_zoom(tab):
+    tab.sample()
+    tab.choose("mode", "class")
+    place, seen = tab.place(), [tab.pixels()]
+    left, right = (place[0] - 40, place[1]), (place[0] + 40, place[1])
+    for fingers in ([moved(place, 60, 30)], [moved(left, 50, 20), moved(right, 50, 20)],
+                    [moved(left, -60, 0), moved(right, 60, 0)]):
+        tab.browser.touch(*fingers)
+        tab.choose("grain", "2")
+        seen.append(tab.pixels())
+        assert seen[-1] != seen[-2]
+    assert tab.text("record") == ""
+    tab.value("void document.getElementById('reset').click()")
+    tab.choose("grain", "2")
+    assert tab.pixels() == seen[0]
+    tab.browser.touch([place])
+    tab.wait("document.getElementById('record').textContent.startsWith('Record ')")
+
+
+def test_files_that_are_dropped(tab, made):
+    tab.browser.drop((300, 60), SAMPLE)
+    tab.wait("document.body.dataset.state !== 'ready'")
+    assert tab.settled() == "done"
+    assert tab.said() == "tile.laz: 20,493 points."
+    tab.browser.drop(tab.place(), made / "ground.laz", SAMPLE)
+    tab.wait("document.querySelectorAll('#views canvas').length === 2")
+    assert tab.settled() == "done"
+    assert "2 Ground12,15512,1550" in tab.text()
+
+
 def test_record_of_a_point_that_is_clicked(tab):
     tab.sample()
-    box = tab.value("(() => { const it = document.querySelector('#views canvas').getBoundingClientRect(); "
-                    "return [it.x, it.y, it.width, it.height]; })()")
-    tab.browser.click(box[0] + 0.5 * box[2], box[1] + 0.45 * box[3])
+    tab.browser.click(*tab.place())
     tab.wait("document.getElementById('record').textContent !== ''")
     text = tab.text("record")
     assert text.startswith("Record ")

@@ -126,4 +126,18 @@ def test_windows_answers_as_linux(programs, count):
 @pytest.mark.browser
 def test_heights_of_the_sample(programs):
     said = under_wine(programs, "heights.exe", f"Z:{TOP / 'examples' / 'tile.laz'}")
-    assert said.startswith("points 20493\nraw z ")
+    assert said == "points 20493\nraw z 21494 23445\n"
+
+
+def test_heights_by_calls_of_its_own_are_those_of_the_library(tmp_path, tmp_path_factory):
+    """The example of docs/web.md, on this system."""
+    gcc, archive = needs.command("gcc", "gcc"), library_files.library(tmp_path_factory) / "liblaz.a"
+    strict = ["-std=c11", "-O2", "-Wall", "-Wextra", "-Werror", f"-I{TOP / 'c'}"]
+    (tmp_path / "cut.laz").write_bytes((TOP / "examples" / "tile.laz").read_bytes()[:50_000])
+    files, ends = [TOP / "examples" / "tile.laz", tmp_path / "cut.laz"], []
+    for name in ("heights_io", "heights"):
+        commands.good([gcc, *strict, TOP / "c" / f"{name}.c", archive, "-o", tmp_path / name])
+        runs = [commands.quiet([tmp_path / name, file]) for file in files]
+        ends.append([(run.returncode, run.stdout, run.stderr) for run in runs])
+    assert ends[0] == ends[1]
+    assert [status for status, _, _ in ends[0]] == [0, 2]

@@ -43,10 +43,13 @@ def test_node_over_the_library(plain, native):
     assert min(ratio for _, ratio in ratios) <= 2.0
 
 
-def test_four_workers_over_one(plain):
+def test_four_workers_over_one(program, tmp_path):
+    """Forty chunks, so that none of the four waits for long at the end."""
     if len(os.sched_getaffinity(0)) < 4:
         needs.missing("there are fewer than four processors", "a machine with four processors")
-    packed = str(plain.with_suffix(".laz"))
+    packed = str(tmp_path / "m.laz")
+    commands.good([program, "make", "-points", "2000000", "-seed", "3", "-format", "1", "-o", tmp_path / "m.las", "-z",
+                   packed, "-cores", "4"])
     rates = []
     for _ in range(3):
         one, four = (web.answer("times", [packed, workers, 5]) for workers in (1, 4))

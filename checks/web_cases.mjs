@@ -1,12 +1,12 @@
 // What the checks have Node do with web/: node web_cases.mjs COMMAND WORDS.. prints its results as JSON.
 import { createHash } from 'node:crypto';
 import { readFileSync } from 'node:fs';
-import { gunzipSync } from 'node:zlib';
 import { Coder } from '../web/coder.mjs';
+import { moduleBytes } from '../web/engine.mjs';
 import { errorData } from '../web/errors.mjs';
 import * as laz from '../web/laz.mjs';
 
-const module = gunzipSync(readFileSync(new URL('../release/laz.wasm.gz', import.meta.url)));
+const module = await moduleBytes();
 const digest = (bytes) => createHash('sha256').update(bytes).digest('hex');
 const digestOf = async (blob) => digest(new Uint8Array(await blob.arrayBuffer()));
 const told = (fault) => (fault instanceof laz.Refused ? fault.message : `${fault.name}: ${fault.message}`);
@@ -102,6 +102,13 @@ async function afterwards([name]) {
     const coder = new Coder(small.instance.exports), big = new Uint8Array(10 ** 6);
     answers.refused = attempt(() => coder.unpack({ format: 0, extra: 0, recordLength: 20 }, big, 10));
     answers.then = attempt(() => coder.need(file.subarray(0, 227), file.length));
+    // though there is room, each call takes a refused growth for what it is
+    const full = new Coder({ ...instance.instance.exports, laz_host_end: () => 0 });
+    const layout = { format: 0, extra: 0, recordLength: 20 }, front = file.subarray(0, 227), table = new Uint8Array(8);
+    answers.full = [() => full.need(front, file.length), () => full.head(front, file.length),
+        () => full.table(table, 50000, 0, 0), () => full.unpack(layout, table, 1),
+        () => full.pack(layout, new Uint8Array(20)), () => full.payload(layout, 50000),
+        () => full.tableOf(new Uint32Array(1))].map(attempt);
     const trap = () => { throw new WebAssembly.RuntimeError('unreachable'); };
     const trapping = { ...instance.instance.exports, laz_c_need: trap };
     const stopped = new Coder(trapping);

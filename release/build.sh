@@ -1,4 +1,5 @@
-# Read by scripts that build the program: they set `top` to the top of the checkout. What is said goes to standard error.
+# Read by scripts that build the program: they set `top` to the top of the checkout. What is said goes to standard
+# error.
 
 say() { printf 'las: %s\n' "$1" >&2; }
 
@@ -22,7 +23,9 @@ build() {
         while IFS= read -r line; do
             case $line in
             "rt: chose --jobs "*) crate=${line##* for } ;;
-            "checked "*::* | "fn "*::* | "struct "*::* | "enum "*::* | "impl "*::*) crate=${line#* } crate=${crate%%::*} ;;
+            "checked "*::* | "fn "*::* | "struct "*::* | "enum "*::* | "impl "*::*)
+                crate=${line#* } crate=${crate%%::*}
+                ;;
             *) continue ;;
             esac
             case $names in *" $crate "*) ;; *) continue ;; esac
@@ -67,5 +70,6 @@ joined() {
 compiler() {
     tools=$(dirname -- "$(rt doc)")/toolchain/bin
     printf '%s, %s, %s\n' "$("$tools/clang" --version 2>/dev/null | head -n 1)" \
-        "$("$tools/ld.lld" -flavor wasm --version 2>/dev/null | head -n 1)" "$(wasm-opt --version 2>/dev/null || echo 'no wasm-opt')"
+        "$("$tools/ld.lld" -flavor wasm --version 2>/dev/null | head -n 1)" \
+        "$(wasm-opt --version 2>/dev/null || echo 'no wasm-opt')"
 }

@@ -1,6 +1,6 @@
-; The three calls for memory that the proved code makes, over malloc, realloc and free of the C library of Windows or macOS.
-; They answer whether there is memory, and where; if there is none, a place of a byte. (In C a struct of two numbers would
-; be given back in another way on Windows than the module's code takes it.)
+; The three calls for memory that the proved code makes, over malloc, realloc and free of the C library of Windows or
+; macOS. They answer whether there is memory, and where; if there is none, a place of a byte. (In C a struct of two
+; numbers would be given back in another way on Windows than the module's code takes it.)
 declare ptr @malloc(i64)
 declare ptr @realloc(ptr, i64)
 declare void @free(ptr)

@@ -1,6 +1,6 @@
-/* The memory of the WebAssembly module. The host lays what it passes from laz_host_start() on, calls laz_host_end(END) to
- * say where that ends, and the calls of las.h take their memory from there on. They free all that they took before they
- * return, so the heap begins anew when nothing is out. */
+/* The memory of the WebAssembly module. The host lays what it passes from laz_host_start() on, calls laz_host_end(END)
+ * to say where that ends, and the calls of las.h take their memory from there on. They free all that they took before
+ * they return, so the heap begins anew when nothing is out. */
 typedef unsigned long long u64;
 typedef unsigned long address; /* as wide as a pointer: 32 bits */
 

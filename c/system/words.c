@@ -1,6 +1,6 @@
 /* The calls for the command line, the environment and errors that the program makes of the Rattle kit's C archive
- * libos_c.a. These stand for it where the kit has no archive, on aarch64, and in static programs. The kit says what each
- * does in rattle/os/src/c.rt. A check compares them with the kit's own on x86-64. */
+ * libos_c.a. These stand for it where the kit has no archive, on aarch64, and in static programs. The kit says what
+ * each does in rattle/os/src/c.rt. A check compares them with the kit's own on x86-64. */
 #include <errno.h>
 #include <stddef.h>
 #include <stdlib.h>

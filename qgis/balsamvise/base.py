@@ -94,6 +94,12 @@ def order_parameter(known: Sequence[Option]) -> QgsProcessingParameterDefinition
         "last, in the order of this dialog. A change without a value is not made.")
 
 
+def layer_place(name: str) -> str:
+    """Where a file is found by the provider of this QGIS that reads files of its name; nothing if there is none."""
+    found = QgsProviderRegistry.instance().preferredProvidersForUri(name)
+    return str(QgsProcessingUtils.encodeProviderKeyAndUri(found[0].metadata().key(), name)) if found else ""
+
+
 def load_parameter() -> QgsProcessingParameterDefinition:
     return with_help(QgsProcessingParameterBoolean("LOAD", "Put the output into the project", defaultValue=False),
                      "Where this QGIS has a provider for LAS and LAZ files. Else the output is a file alone.")
@@ -220,12 +226,13 @@ class Algorithm(QgsProcessingAlgorithm):
         """Puts an output into the project, if that is wanted and a provider is there for it."""
         if not self.parameterAsBool(parameters, "LOAD", context):
             return
-        if "pdal" not in QgsProviderRegistry.instance().providerList():
+        place = layer_place(output)
+        if not place:
             feedback.pushWarning("This QGIS has no provider for LAS and LAZ files: the output is a file alone.")
             return
         details = QgsProcessingContext.LayerDetails(os.path.basename(output), context.project(), "OUTPUT",
                                                     QgsProcessingUtils.LayerHint.PointCloud)
-        context.addLayerToLoadOnCompletion(output, details)
+        context.addLayerToLoadOnCompletion(place, details)
 
 
 def value_of(definition: Optional[QgsProcessingParameterDefinition], value: Any) -> Any:

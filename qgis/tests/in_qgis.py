@@ -17,7 +17,7 @@ os.environ.setdefault("QT_QPA_PLATFORM", "offscreen")
 PLUGINS = os.path.expanduser("~/.local/share/QGIS/QGIS3/profiles/default/python/plugins")
 sys.path[:0] = ["/usr/share/qgis/python/plugins", PLUGINS]
 from qgis.core import (QgsApplication, QgsProcessingContext, QgsProcessingException,  # noqa: E402
-                       QgsProcessingFeedback, QgsProject, QgsVectorLayer)
+                       QgsProcessingFeedback, QgsProcessingUtils, QgsProject, QgsProviderRegistry, QgsVectorLayer)
 
 TOP = os.path.dirname(os.path.dirname(os.path.dirname(os.path.realpath(__file__))))
 PROGRAM, SAMPLE = os.environ["BALSAMVISE_PROGRAM"], os.environ["SAMPLE"]
@@ -51,6 +51,20 @@ class Feedback(QgsProcessingFeedback):
         self.warnings.append(warning)
 
 
+def write_node(folder, packed):
+    """EPT data of one node: a packed file of format 1 whose scales are a hundredth."""
+    far = [-1e7] * 3 + [1e7] * 3
+    schema = [{"name": name, "type": "signed", "size": 4, "scale": 0.01, "offset": 0} for name in "XYZ"]
+    settings = {"bounds": far, "boundsConforming": far, "dataType": "laszip", "hierarchyType": "json",
+                "points": 20493, "schema": schema, "span": 128, "srs": {}, "version": "1.0.0"}
+    os.mkdir(os.path.join(folder, "ept-data"))
+    os.mkdir(os.path.join(folder, "ept-hierarchy"))
+    for name, text in (("ept.json", settings), ("ept-hierarchy/0-0-0-0.json", {"0-0-0-0": 20493})):
+        with open(os.path.join(folder, name), "w", encoding="ascii") as file:
+            json.dump(text, file)
+    shutil.copy(packed, os.path.join(folder, "ept-data", "0-0-0-0.laz"))
+
+
 class Case(unittest.TestCase):
     def setUp(self):
         self.kept = []
@@ -68,9 +82,22 @@ class Case(unittest.TestCase):
         self.kept.append(QgsApplication.processingRegistry().createAlgorithmById("balsamvise:" + name))
         return self.kept[-1]
 
-    def run_it(self, name, feedback=None, **parameters):
-        algorithm, context = self.algorithm(name), QgsProcessingContext()
+    def context(self):
+        context = QgsProcessingContext()
         context.setProject(QgsProject.instance())
+        return context
+
+    def layers(self, context):
+        """The layers that are put into the project when a run has ended: the name of each, and its points."""
+        found = []
+        for place, details in context.layersToLoadOnCompletion().items():
+            layer = QgsProcessingUtils.mapLayerFromString(place, context, typeHint=details.layerTypeHint)
+            self.assertTrue(layer.isValid())
+            found.append((details.name, layer.pointCount()))
+        return found
+
+    def run_it(self, name, feedback=None, context=None, **parameters):
+        algorithm, context = self.algorithm(name), context or self.context()
         good, why = algorithm.checkParameterValues(parameters, context)
         if not good:
             raise ValueError(why)
@@ -201,11 +228,25 @@ class Runs(Case):
         self.same(self.file("a.laz"), self.file("b.laz"))
 
     def test_output_that_no_provider_reads_is_a_file(self):
-        feedback = Feedback()
-        self.run_it("laszip", feedback, INPUT=SAMPLE, OUTPUT=self.file("a.las"), LOAD=True)
+        feedback, context = Feedback(), self.context()
+        self.run_it("laszip", feedback, context, INPUT=SAMPLE, OUTPUT=self.file("a.las"), LOAD=True)
         self.assertTrue(os.path.exists(self.file("a.las")))
-        self.assertEqual(len(feedback.warnings), 1)  # Debian's QGIS 3.22 has no provider for it
-        self.assertIn("no provider", feedback.warnings[0])
+        if QgsProviderRegistry.instance().preferredProvidersForUri(self.file("a.las")):
+            self.assertEqual((feedback.warnings, self.layers(context)), ([], [("a.las", 20493)]))
+        else:  # as in Debian's QGIS 3.22
+            self.assertEqual(len(feedback.warnings), 1)
+            self.assertIn("no provider", feedback.warnings[0])
+            self.assertEqual(self.layers(context), [])
+
+    def test_output_that_a_provider_reads_is_put_into_the_project(self):
+        """Debian's QGIS reads no LAS or LAZ file, but EPT data, which keep the sample as LAZ."""
+        write_node(self.folder, SAMPLE)
+        algorithm, feedback = self.algorithm("laszip"), Feedback()
+        for wanted, layers in ((False, []), (True, [("ept.json", 20493)])):
+            context = self.context()
+            algorithm.load(self.file("ept.json"), {"LOAD": wanted}, context, feedback)
+            self.assertEqual(self.layers(context), layers)
+        self.assertEqual(feedback.warnings, [])
 
 
 class Refusals(Case):

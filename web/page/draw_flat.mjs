@@ -34,6 +34,8 @@ export class FlatDrawing {
         return drawing.#context === null ? undefined : drawing;
     }
 
+    get canvas() { return this.#context.canvas; }
+
     /** Draws layers, each a list of blocks with colours and a shift, as `rows` of a camera tell. */
     draw(layers, rows, grain, background) {
         const { width, height } = this.#context.canvas, image = this.#context.createImageData(width, height);

@@ -61,6 +61,10 @@ export class GlDrawing {
         return kept;
     }
 
+    get canvas() { return this.#gl.canvas; }
+
+    get isLost() { return this.#gl.isContextLost(); }
+
     /** Draws layers, each a list of blocks with colours and a shift, as `rows` of a camera tell. */
     draw(layers, rows, grain, background) {
         const gl = this.#gl, { width, height } = gl.canvas, at = (name) => gl.getUniformLocation(this.#program, name);

@@ -3,7 +3,7 @@ import { MODES, legendOf } from './colours.mjs';
 import { Camera } from './camera.mjs';
 import { Scene, boxOf } from './scene.mjs';
 import { comparison, fileTables, grouped, make, recordTable } from './tables.mjs';
-import { View } from './view.mjs';
+import { View, prepareDrawing } from './view.mjs';
 
 const at = (id) => document.getElementById(id);
 const inline = (text) => Uint8Array.from(atob(text), (letter) => letter.charCodeAt(0));
@@ -87,7 +87,6 @@ class Slot {
         this.scene = new Scene(head);
         Object.assign(this.scene, { name: this.name, slot: slots.indexOf(this) });
         layOut();
-        showTables();
     }
 
     add({ points, done, of }) {
@@ -99,7 +98,15 @@ class Slot {
         showProgress();
         views.forEach((view) => (isFirst ? view.draw() : view.redraw()));
         if (isFirst && points.count > 0)
+            this.drawn();
+    }
+
+    // Called when the first points are drawn. The tables come after the browser has shown them.
+    drawn() {
+        requestAnimationFrame(() => setTimeout(() => {
             document.body.dataset.firstPicture = String(Math.round(performance.now() - this.begun));
+            showTables();
+        }));
     }
 
     end({ fault, summary, report, plainSum }) {
@@ -300,6 +307,7 @@ function listen() {
 }
 
 listen();
+prepareDrawing();
 document.body.dataset.state = 'ready';
 if (location.hash === '#sample')
     sample();

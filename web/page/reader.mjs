@@ -126,10 +126,11 @@ async function decode() {
     try {
         for await (const chunk of file.chunks({ fields: DRAWN })) {
             batch.add(chunk, step);
-            summary.add(chunk);
-            plain.update(chunk.records);
             if (batch.count >= BATCH || performance.now() - last > 100)
                 post(chunk.to);
+            // the page draws while these are made
+            summary.add(chunk);
+            plain.update(chunk.records);
         }
     } catch (error) {
         fault = faultOf(error);

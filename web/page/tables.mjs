@@ -1,7 +1,8 @@
 // The tables of what is in a file.
 import { classColour, className } from './colours.mjs';
 
-/** A number with commas between thousands. (The call of the language takes a tenth of a second when it is first made.) */
+// By hand, since `toLocaleString` takes a tenth of a second when it is first called.
+/** A number with commas between thousands. */
 export const grouped = (value) => String(value).replace(/\B(?=(\d{3})+(?!\d))/g, ',');
 const css = ([r, g, b]) => `rgb(${r},${g},${b})`;
 
@@ -55,7 +56,8 @@ function differences(head, summary) {
 
 function generalRows(scene) {
     const { head, result } = scene;
-    const chunks = head.chunkSize === undefined ? 'numbers of points of their own' : `${grouped(head.chunkSize)} points`;
+    const chunks = head.chunkSize === undefined ? 'numbers of points of their own'
+        : `${grouped(head.chunkSize)} points`;
     const packed = head.isPacked ? `yes, in ${grouped(head.chunkCount)} chunks of ${chunks}` : 'no';
     const rows = [['Points', grouped(head.points)], ['LAS version', head.version],
         ['Point data format', `${head.format}, ${head.recordLength} bytes a record`
@@ -68,7 +70,8 @@ function generalRows(scene) {
         ['Coordinate system', head.crs.length > 0 ? head.crs.join('; ') : 'not said'],
         ['Points by return in the header', head.returns.map(grouped).join(', ')]];
     if (result.summary !== undefined && result.fault === undefined && head.points > 0) {
-        rows.push(['Points by return, counted', Array.from(result.summary.returns).slice(1, 6).map(grouped).join(', ')]);
+        const returns = Array.from(result.summary.returns).slice(1, 6);
+        rows.push(['Points by return, counted', returns.map(grouped).join(', ')]);
         const differing = differences(head, result.summary);
         rows.push(['Header and points', differing.length > 0 ? `differ in ${differing.join(' and ')}` : 'agree']);
     }

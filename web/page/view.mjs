@@ -13,6 +13,25 @@ function backgroundOf(element) {
     return found.slice(0, 3).map(Number);
 }
 
+// Drawings by WebGL that no view has: the first picture would wait for a new one.
+const unused = [];
+
+/** Makes a drawing by WebGL for the next view, if there is none. */
+export function prepareDrawing() {
+    if (unused.length === 0)
+        putAside(GlDrawing.on(document.createElement('canvas')));
+}
+
+function putAside(drawing) {
+    if (drawing instanceof GlDrawing && !drawing.isLost)
+        unused.push(drawing);
+}
+
+function newDrawing(wantsFlat) {
+    const made = wantsFlat ? undefined : unused.pop() ?? GlDrawing.on(document.createElement('canvas'));
+    return made ?? FlatDrawing.on(document.createElement('canvas'));
+}
+
 export class View {
     scenes = [];
     mode = 'height';
@@ -23,16 +42,17 @@ export class View {
     onMove = () => {};
     #kept = new WeakMap(); // the colours of blocks
     #asked = false;
+    #closing = new AbortController();
 
     constructor(holder, camera, label, wantsFlat) {
         this.camera = camera;
-        this.canvas = document.createElement('canvas');
+        this.drawing = newDrawing(wantsFlat);
+        this.canvas = this.drawing.canvas;
         this.canvas.tabIndex = 0;
         this.canvas.setAttribute('role', 'img');
         this.canvas.setAttribute('aria-label', label);
         this.canvas.setAttribute('aria-describedby', 'keys');
         holder.replaceChildren(this.canvas);
-        this.drawing = (wantsFlat ? undefined : GlDrawing.on(this.canvas)) ?? FlatDrawing.on(this.canvas);
         this.#listen();
         this.observer = new ResizeObserver(() => this.redraw());
         this.observer.observe(this.canvas);
@@ -86,8 +106,10 @@ export class View {
     }
 
     close() {
+        this.#closing.abort();
         this.observer.disconnect();
         this.drawing.clear();
+        putAside(this.drawing);
     }
 
     // The point that is nearest to a place of the canvas: of those within a few pixels the one in front.
@@ -136,19 +158,20 @@ export class View {
     }
 
     #listen() {
-        const { canvas } = this, down = new Map();
+        const { canvas } = this, down = new Map(), { signal } = this.#closing;
+        const on = (name, call, more) => canvas.addEventListener(name, call, { signal, ...more });
         let moved = 0;
         const placeOf = (event) => {
             const box = canvas.getBoundingClientRect();
             return [event.clientX - box.left, event.clientY - box.top];
         };
-        canvas.addEventListener('pointerdown', (event) => {
+        on('pointerdown', (event) => {
             canvas.setPointerCapture(event.pointerId);
             down.set(event.pointerId, placeOf(event));
             if (down.size === 1)
                 moved = 0;
         });
-        canvas.addEventListener('pointermove', (event) => {
+        on('pointermove', (event) => {
             const before = down.get(event.pointerId), now = placeOf(event);
             if (before === undefined)
                 return;
@@ -166,15 +189,15 @@ export class View {
             if (down.delete(event.pointerId) && event.type === 'pointerup' && moved < 5 && down.size === 0)
                 this.onPick(this.pick(...placeOf(event)));
         };
-        canvas.addEventListener('pointerup', end);
-        canvas.addEventListener('pointercancel', end);
-        canvas.addEventListener('contextmenu', (event) => event.preventDefault());
-        canvas.addEventListener('wheel', (event) => {
+        on('pointerup', end);
+        on('pointercancel', end);
+        on('contextmenu', (event) => event.preventDefault());
+        on('wheel', (event) => {
             event.preventDefault();
             const step = Math.sign(event.deltaY) * Math.min(0.3, Math.abs(event.deltaY) / 500);
             this.#zoom(Math.exp(-step), ...placeOf(event));
         }, { passive: false });
-        canvas.addEventListener('keydown', (event) => this.#key(event));
+        on('keydown', (event) => this.#key(event));
     }
 
     // Two fingers move and zoom.
