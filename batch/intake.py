@@ -331,7 +331,8 @@ class Settler:
         self.intake.sync_folders(folder_of(job.input) for job in hiding)
         with self.intake.state.writing():
             self.intake.state.put_jobs([job for job in made if job.state == TODO])
-        self.intake.save(hiding)
+        if not self.intake.save(hiding):  # else an input that stays would be counted as removed
+            raise self.intake.trouble
 
     def name(self, job: Job) -> None:
         """A job whose draft was to get its name: it has it, gets it now, or is to do again.
