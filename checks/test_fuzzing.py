@@ -42,7 +42,7 @@ def run_for(seconds: int, program: Path, folder: Path) -> "tuple[int, str]":
 
 @pytest.mark.huge
 @pytest.mark.alone
-def test_a_fault_behind_eight_bytes_is_found(tmp_path: Path) -> None:
+def test_a_fault_that_eight_bytes_guard_is_found(tmp_path: Path) -> None:
     """The fuzzer finds what it is for: a write of one byte too many, where a chunk begins in a certain way."""
     needs_fuzzer()
     kit = Path(subprocess.check_output(["rt", "doc"]).decode().strip()).parent

@@ -33,7 +33,7 @@ amount() {
     else echo "$(($1 / 1000)) KB"; fi
 }
 
-# Shows the line after so many tenths of a second.
+# Shows the line after a number of tenths of a second.
 draw_line() {
     line="las: $(amount "$has_read") read, $(amount "$has_written") written, $(($1 / 10)) s"
     if [ "$total" -gt 0 ] && [ "$has_read" -le "$total" ]; then

@@ -160,7 +160,7 @@ export class Coder {
         return this.#written(chunk, written);
     }
 
-    /** The payload of the laszip VLR, for chunks of so many points. */
+    /** The payload of the laszip VLR, for chunks of a number of points. */
     payload({ format, extra }, chunk) {
         const [payload, written] = this.#places(MAX_PAYLOAD, 8);
         this.#take(this.#call('laz_c_vlr', format, extra, chunk | 0, payload, BigInt(MAX_PAYLOAD), written));
@@ -181,6 +181,6 @@ export class Coder {
         return this.#bytes.subarray(at, at + Number(this.#view.getBigUint64(written, true)));
     }
 
-    /** How many bytes a chunk table of so many chunks has at most. */
+    /** The most bytes that a chunk table of a number of chunks has. */
     tableRoom(chunks) { return Number(this.#call('laz_c_table_room', chunks)); }
 }

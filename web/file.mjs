@@ -294,7 +294,7 @@ export class LasFile {
         yield { at: front.length, bytes: pointer };
     }
 
-    // The chunks of the plain file, each of so many points.
+    // The chunks of the plain file, each of that many points.
     #packed(chunkSize) {
         const layout = this.#layout, file = this, { offset, recordLength } = this.head;
         function* each() {

@@ -13,7 +13,7 @@ export class Pool {
     #number = 0;
     #closed = false;
 
-    /** A pool of so many workers. `start` makes one: an object as `Worker` in a page, or as that of Node. */
+    /** A pool of a number of workers. `start` makes one: an object as `Worker` in a page, or as that of Node. */
     static async of(count, module, start) {
         const pool = new Pool();
         try {

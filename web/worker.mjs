@@ -16,7 +16,7 @@ export function jobDone(coder, { kind, layout, bytes, count, names }) {
     return { fields: fieldsOf(records, layout, names), bytes: copied(records) };
 }
 
-// What an error of a job is told as: with the number of its chunk, and a want of memory by its name.
+// What an error of a job is told as: with the number of its chunk, and with the name of the error if memory ran out.
 export function jobError(error, chunk) {
     if (error instanceof Refused && error.number === BAD_CHUNK)
         return new Refused(BAD_CHUNK, chunk);
