@@ -331,7 +331,8 @@ run_with_hints() {
     wait_for
     if [ -n "$watcher" ]; then
         printf '' 2>/dev/null >"$own/over"
-        kill "$watcher" 2>/dev/null && wait "$watcher"
+        # (a shell says that it was ended, if the signal came before the trap)
+        kill "$watcher" 2>/dev/null && wait "$watcher" 2>/dev/null
     fi
     if [ -n "$hints" ]; then
         line=$(cat -- "$said" && echo .)
