@@ -7,6 +7,7 @@ from pathlib import Path
 
 import pytest
 
+import needs
 from programs import TOP
 
 EDITS = sorted([*TOP.glob("edits/*/*.edit"), *TOP.glob("crates/*/must-fail/*.edit")])
@@ -63,6 +64,7 @@ done
 @pytest.fixture
 def tree(tmp_path: Path) -> Path:
     """A checkout of one crate with an edit of the gate and one beside it, and an `rt` that says $SAID of each."""
+    needs.command("git", "git")
     for name, text in [("crates/one/src/lib.rt", "fn f() { g(1) }\n"),
                        ("crates/one/must-fail/two.edit", "file: src/lib.rt\nold: g(1)\nnew: g(2)\n"),
                        ("edits/one/three.edit", "file: src/lib.rt\nold: g(1)\nnew: g(3)\n")]:

@@ -209,6 +209,7 @@ def test_wheel_names_the_command(tmp_path):
 
 
 def test_archive_has_the_command(tmp_path):
+    needs.module("numpy", "python3-numpy")
     subprocess.run([TOP / "release" / "tar", tmp_path], stdout=subprocess.DEVNULL, check=True)
     name, = tmp_path.glob("*x86_64.tar.gz")
     shutil.unpack_archive(name, tmp_path / "a folder")

@@ -52,6 +52,7 @@ def folder(tmp_path_factory):
 @pytest.fixture
 def plugin(folder, monkeypatch):
     """A module of the plugin by its name. The plugin has another name here than the Python package."""
+    needs.module("numpy", "python3-numpy")  # which QGIS has
     spec = importlib.util.spec_from_file_location("plugin", f"{folder}/__init__.py",
                                                   submodule_search_locations=[folder])
     module = importlib.util.module_from_spec(spec)

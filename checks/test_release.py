@@ -157,6 +157,8 @@ STATES = {
 
 def test_release_that_is_made_anew_passes(tmp_path):
     """What is there of a build is packed, with what it was built from, the verdicts among it."""
+    needs.command("ld", "binutils")
+    needs.command("aarch64-linux-gnu-gcc", "gcc-aarch64-linux-gnu")
     at = Checkout(tmp_path, b'#!/bin/sh\ncp "$3" "$5"\n')
     built(at)
     at.own(b'#!/bin/sh\ncp "$3" "$5"\n')

@@ -355,10 +355,11 @@ class Cancelled(Case):
 
     def test_cancel_of_lassplit_and_of_a_folder(self):
         # (large enough that it is not done before the cancel is seen)
-        self.las("make", "-o", self.file("large.las"), "-z", self.file("large.laz"), "-points", "20000000", "-seed", "1")
+        self.las("make", "-o", self.file("large.las"), "-z", self.file("large.laz"), "-points", "10000000",
+                 "-seed", "1")
         ways = self.algorithm("lassplit").parameterDefinition("WAY").options()
         self.cancelled("lassplit", self.folder, INPUT=self.file("large.las"), OUTPUT=self.file("parts"),
-                       WAY=ways.index("Split"), SPLIT="500000")
+                       WAY=ways.index("Split"), SPLIT="250000")
         self.assertEqual(os.listdir(self.file("parts")), [])
         os.mkdir(self.file("in"))
         for number in range(8):
