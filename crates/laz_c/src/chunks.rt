@@ -1,7 +1,7 @@
 //! Chunks of point records.
 
 ghost use Rattle.std.specs.Prelude.{◌≡◌, ◌≢◌, ◌≤◌, ◌<◌, ◌*◌, ◌/◌, ◌%◌, ◌^◌, ◌↔◌, ℕ, List, length, take, drop};
-ghost use Rattle.std.specs.Prelude.{true, false, if◌then◌else◌, IfOk};
+ghost use Rattle.std.specs.Prelude.{true, false, if◌then◌else◌, IfOk, vec_capacity};
 ghost use Rattle.laz_chunk.specs.Layouts.{layout, layout_of, record_length, room_for};
 ghost use Rattle.laz_chunk.specs.Chunks.{AreRecords, Holds, chunk_bytes, count_of};
 ghost use Rattle.laz_c.specs.Arguments.{can_pack, can_unpack, whole_records, is_known, size_of};
@@ -85,17 +85,19 @@ fn room_of(format: u8, extra: u16, bytes: usize, room: usize) -> usize
     laz_chunk::room_for(format, extra, count as u32) as usize
 }
 
-// Packs records into the front of `chunk`, and cuts off the rest of it.
-fn packed(workspace: Workspace, records: &[u8], chunk: Vec<u8>) -> Vec<u8>
+// Packs records into `chunk`, which is empty and has capacity for `enough` bytes. Only what is packed is written to it.
+fn packed(workspace: Workspace, records: &[u8], chunk: Vec<u8>, enough: usize) -> Vec<u8>
     requires some { record_length (layout workspace) ≤ length records.now }
     requires whole { length records.now % record_length (layout workspace) ≡ 0 }
-    requires room { room_for (layout workspace) (count_of (layout workspace) records.now) ≤ length chunk.items }
+    requires room { room_for (layout workspace) (count_of (layout workspace) records.now) ≤ enough }
+    requires empty { length chunk.items ≡ 0 }
+    requires capacity { enough ≤ vec_capacity chunk }
     ensures bytes { result.items ≡ chunk_bytes (layout workspace) records.now }
-    ensures most { length result.items ≤ length chunk.items }
+    ensures most { length result.items ≤ enough }
 {
     let mut workspace = workspace;
     let mut chunk = chunk;
-    let length = workspace.pack(records, &mut chunk);
+    let length = workspace.pack_within(records, &mut chunk, enough);
     chunk.truncate(length);
     chunk
 }
@@ -113,9 +115,9 @@ fn chunk_of(
     ensures most { IfOk result (λ chunk. length chunk.items ≤ room) }
 {
     let enough = room_of(format, extra, records.len(), room);
-    let chunk = vec![in alloc; 0; enough]?;
+    let chunk = Vec::with_capacity(alloc, enough)?;
     let workspace = Workspace::new(alloc, format, extra)?;
-    Ok(packed(workspace, records, chunk))
+    Ok(packed(workspace, records, chunk, enough))
 }
 
 /// How many bytes are enough for a chunk of this many points. It is 0 for no points, and for a point format or a number
