@@ -1,4 +1,5 @@
 """Files that are read and written in streams by the Python package: the same as whole, in little memory."""
+import errno
 import io
 import os
 import subprocess
@@ -118,6 +119,49 @@ def test_a_stream_gives_the_bytes_of_las(it, files, tmp_path, end, threads, size
     assert (tmp_path / f"out{end}").read_bytes() == (files / f"3_4{end}").read_bytes()
     assert (seen[-1], out.points, out.head.points) == (1000, 1000, 1000)
     assert os.listdir(tmp_path) == [f"out{end}"]
+
+
+@pytest.mark.parametrize("threads", [1, 2, 4])
+@pytest.mark.parametrize("size", [1, 2, 5, 6, 20, 40], ids=lambda size: f"{size} chunks at a time")
+def test_records_are_written_as_they_were_at_the_call(it, np, tmp_path, threads, size):
+    """Whether threads pack them out of the array or out of a copy: it is changed as soon as `write` returns."""
+    points = it.Points.zeros(40 * 5000, it.Head.new(1))
+    points.X = np.random.default_rng(3).integers(-2**31, 2**31, len(points))
+    points.gps_time = np.random.default_rng(4).random(len(points))
+    kept = points.copy()
+    with it.create(tmp_path / "a.laz", points.head, chunk=5000, threads=threads) as out:
+        for at in range(0, len(points), size * 5000):
+            out.write(points[at:at + size * 5000])
+            points[at:at + size * 5000] = points[:1]
+    assert it.read(tmp_path / "a.laz", 4).tobytes() == kept.tobytes()
+    kept.write(tmp_path / "b.laz", chunk=5000)
+    assert (tmp_path / "a.laz").read_bytes() == (tmp_path / "b.laz").read_bytes()
+
+
+@pytest.mark.parametrize("end", [".las", ".laz"])
+@threads_
+def test_no_file_if_a_write_failed(it, files, tmp_path, end, threads):
+    """Also if the caller goes on: points are missing, so nothing takes the name, and closing tells."""
+    points = it.read(files / "0_0.las")
+    (tmp_path / f"a{end}").write_bytes(b"old")
+    told = []
+
+    def refuse(done, total):
+        told.append(done)
+        if len(told) == 2:
+            raise OSError(errno.ENOSPC, "full")
+
+    with pytest.raises(ValueError, match="earlier call of write failed"):
+        with it.create(tmp_path / f"a{end}", points.head, chunk=100, threads=threads, progress=refuse) as out:
+            with pytest.raises(OSError):
+                out.write(points)
+                out.write(points)
+            with pytest.raises(ValueError, match="earlier call of write failed"):
+                out.write(points)
+    with pytest.raises(ValueError, match="earlier call of write failed"):
+        out.close()
+    assert os.listdir(tmp_path) == [f"a{end}"]
+    assert (tmp_path / f"a{end}").read_bytes() == b"old"
 
 
 @pytest.mark.parametrize("packed", [False, True])

@@ -2,7 +2,8 @@
 from __future__ import annotations
 
 from collections import deque
-from concurrent.futures import Future, ThreadPoolExecutor
+from concurrent.futures import Future, ThreadPoolExecutor, wait
+from itertools import islice
 from types import TracebackType
 from typing import Callable, Generic, Iterable, Iterator, TypeVar
 
@@ -29,6 +30,8 @@ class ThreadPool(Generic[T]):
         self._limit = 2 * threads
         self._executor = ThreadPoolExecutor(threads) if threads > 1 else None
         self._pending: deque[Future[T]] = deque()
+        self.submitted = 0
+        """How many calls were submitted."""
 
     def __enter__(self) -> ThreadPool[T]:
         return self
@@ -46,11 +49,17 @@ class ThreadPool(Generic[T]):
     def submit(self, call: Callable[[], T]) -> Iterator[T]:
         """Submits a call, and yields results until there is room for it."""
         if self._executor is None:
+            self.submitted += 1
             yield call()
             return
         while len(self._pending) >= self._limit:
             yield self._pending.popleft().result()
         self._pending.append(self._executor.submit(call))
+        self.submitted += 1
+
+    def wait_for(self, calls: int) -> None:
+        """Waits until this many calls have ended, the first that were submitted. Their results stay where they are."""
+        wait(list(islice(self._pending, max(0, calls - self.submitted + len(self._pending)))))
 
     def drain(self) -> Iterator[T]:
         """The results of all calls that are pending."""

@@ -23,6 +23,8 @@ CHUNK = 50_000
 MAX_CHUNK = 250_000
 MAX_PLAIN_OFFSET = 2**24 - 112
 
+_LOST = "the file was not written, since an earlier call of write failed"
+
 Packed = Tuple[bytes, int, Tally]
 """The bytes of a chunk, the number of its records, and their counts."""
 
@@ -47,6 +49,7 @@ class LasWriter:
         self.head = _checked(head)
         self.points = 0
         self._is_open = False
+        self._failed = False
         self._dtype = dtype_of(head.format, head.extra)
         self._chunk = min(chunk, CHUNK) if chunk == library.COUNTED else chunk
         self._sizes = array("I") if chunk == library.COUNTED else None
@@ -104,13 +107,15 @@ class LasWriter:
         """Takes records after those that were taken before: `Points`, or an array of structs as of `dtype_of`.
 
         They have the format and the extra bytes of the head, and `Points` its scales and offsets too, else it raises
-        `ValueError`. The array may be changed when the call returns.
+        `ValueError`. The array may be changed when the call returns. After any other error the file is not made, as
+        points are missing: it is closed, and `close` and the end of the `with` block raise `ValueError`.
         """
         self._take(points, borrowed=False)
 
     def _take(self, points: Array, borrowed: bool) -> None:
+        """Takes records. If they are borrowed, they are all of the file, and stay as they are until it is closed."""
         if not self._is_open:
-            raise ValueError("the file is closed")
+            raise ValueError(_LOST if self._failed else "the file is closed")
         if isinstance(points, Points):
             checked_one_scale([self.head, points.head])
         records = np.ascontiguousarray(np.asarray(points)).reshape(-1)
@@ -119,6 +124,14 @@ class LasWriter:
                              f"and these have other fields: {records.dtype}")
         if self.points + len(records) >= 2**32:
             raise ValueError("a file has fewer than 2^32 points")
+        try:
+            self._put_records(records, borrowed)
+        except BaseException as error:
+            self._failed = True
+            self._leave(error)
+            raise
+
+    def _put_records(self, records: Array, borrowed: bool) -> None:
         self.points += len(records)
         if not self._packed:
             self._tally.add([Tally.of(records)])
@@ -126,13 +139,23 @@ class LasWriter:
             self._told.add(len(records))
             return
         at = 0
+        lent = 0  # how many calls have to end before the caller may change the records
         while at < len(records):
-            whole = len(records) - at >= self._chunk and self._filled == 0
-            if whole and (borrowed or self._threads == 1):
+            if self._filled == 0 and (borrowed or self._is_lent(len(records) - at)):
                 self._give(records[at:at + self._chunk])
                 at += self._chunk
+                lent = 0 if borrowed else self._pool.submitted
             else:
                 at += self._keep(records[at:])
+        self._pool.wait_for(lent)
+
+    def _is_lent(self, left: int) -> bool:
+        """Whether the next chunk is packed out of the caller's records, of which so many are left.
+
+        The last ones are copied, one for each thread, so that all threads have work when the call returns: it waits for
+        the others.
+        """
+        return left >= self._chunk * (1 if self._threads == 1 else self._threads + 1)
 
     def _keep(self, records: Array) -> int:
         """Copies records to the chunk that waits, which is packed when it is full; answers how many."""
@@ -192,7 +215,12 @@ class LasWriter:
                     self._put(*packed)
 
     def close(self) -> None:
-        """Ends the file: it is whole, synced, and has its name. It may be called again."""
+        """Ends the file: it is whole, synced, and has its name. It may be called again.
+
+        It raises `ValueError` if a call of `write` failed, so that points are missing: then there is no file.
+        """
+        if self._failed:
+            raise ValueError(_LOST)
         if not self._is_open:
             return
         try:
@@ -222,6 +250,8 @@ class LasWriter:
 
     def _leave(self, error: BaseException | None) -> None:
         """Lets the file have its name, or takes it away if there was an error."""
+        if not self._is_open:
+            return
         self._is_open = False
         self._pool.close()
         self._told.__exit__(None, None, None)
