@@ -48,8 +48,8 @@ class Chunks:
                 "table_place_at_the_end": self.at_the_end}
 
 
-def _range(numbers: Any) -> Optional[list[int]]:
-    return [int(numbers.min()), int(numbers.max())] if len(numbers) else None
+def _range(numbers: Sequence[int]) -> Optional[list[int]]:
+    return [min(numbers), max(numbers)] if len(numbers) > 0 else None
 
 
 def _chunks(source: PathSource, raw: library.RawHead) -> Chunks:

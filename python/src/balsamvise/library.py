@@ -4,7 +4,8 @@ from __future__ import annotations
 import ctypes
 import os
 import sys
-from dataclasses import dataclass
+from array import array
+from typing import NamedTuple
 
 import numpy as np
 
@@ -148,8 +149,9 @@ def _address(array: Array) -> tuple[int, int]:
     return array.ctypes.data, array.nbytes
 
 
-def _bytes(data: bytes) -> tuple[ctypes.c_char_p, int]:
-    return ctypes.cast(ctypes.c_char_p(data), ctypes.c_void_p), len(data)  # type: ignore[return-value]
+def _bytes(data: bytes) -> tuple[bytes, int]:
+    """What a call takes for a pointer and a length: ctypes hands on where the bytes are."""
+    return data, len(data)
 
 
 def _done(answer: int) -> bool:
@@ -178,13 +180,12 @@ def read_head(name: str, data: bytes, size: int) -> RawHead:
     return head
 
 
-@dataclass(frozen=True)
-class ChunkList:
+class ChunkList(NamedTuple):
     """The chunks of a packed file, in order."""
 
-    sizes: Array
+    sizes: array[int]
     """The number of points of each chunk."""
-    counts: Array
+    counts: array[int]
     """The number of bytes of each chunk."""
 
 
@@ -192,9 +193,9 @@ def read_table(name: str, data: bytes, chunk: int, points: int, total: int) -> C
     """The chunks by the table that `data` begins with."""
     calls = _calls()
     count = calls.laz_c_chunks(*_bytes(data), chunk, points)
-    sizes, counts = np.zeros(count, np.uint32), np.zeros(count, np.uint32)
+    sizes, counts = array("I", [0]) * count, array("I", [0]) * count
     refusal = ctypes.c_uint32()
-    answer = calls.laz_c_table(*_bytes(data), chunk, points, total, sizes.ctypes.data, count, counts.ctypes.data, count,
+    answer = calls.laz_c_table(*_bytes(data), chunk, points, total, *sizes.buffer_info(), *counts.buffer_info(),
                                ctypes.byref(refusal))
     if not _done(answer):
         raise Refused(name, refusal.value)

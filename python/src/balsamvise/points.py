@@ -136,9 +136,16 @@ class Points(Array):
         np.ndarray.__setattr__(self, "head", getattr(other, "head", None))
 
     @classmethod
+    def _of(cls, records: Array, head: Head) -> Points:
+        """A plain array of a head's records, whose type is not looked at."""
+        points: Points = records.view(cls)
+        np.ndarray.__setattr__(points, "head", head)
+        return points
+
+    @classmethod
     def zeros(cls, count: int, head: Head) -> Points:
         """This many records of a head's format, with zeros in all fields."""
-        return cls(np.zeros(count, dtype_of(head.format, head.extra)), head)
+        return cls._of(np.zeros(count, dtype_of(head.format, head.extra)), head)
 
     @classmethod
     def of_columns(cls, head: Head, **columns: Any) -> Points:

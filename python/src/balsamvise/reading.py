@@ -25,6 +25,8 @@ from .vlrs import Vlrs
 
 Path = Union[str, "os.PathLike[str]"]
 _PLAIN_CHUNK = 50_000
+_BLOCK = 4096
+"""How much is read at once of a head or a chunk table, which are mostly shorter."""
 _MANY_CHUNKS = 65_536
 """Of more chunks than this no list is made before it is known that the file has bytes for them."""
 _JOB = 16_384
@@ -55,8 +57,9 @@ class LasFile:
 
     def _begin(self) -> None:
         size = self._source.size
-        offset = library.need(self.name, self._source.read(0, min(size, library.FRONT)), size)
-        data = self._source.read(0, offset)
+        front = self._source.read(0, min(size, _BLOCK))
+        offset = library.need(self.name, front[:library.FRONT], size)
+        data = front[:offset] if offset <= len(front) else self._source.read(0, offset)
         raw = library.read_head(self.name, data, size)
         self.is_packed = raw.chunk != 0
         self._chunk_size: int = raw.chunk
@@ -82,14 +85,15 @@ class LasFile:
             (table,) = struct.unpack("<Q", self._source.read(end, 8))
         if not first <= table <= end:
             raise Refused(self.name, TABLE_POINTER)
-        data = self._source.read(table, min(end - table, 8))
-        if len(data) == 8:
+        data = self._source.read(table, min(end - table, _BLOCK))
+        if len(data) >= 8:
             count = struct.unpack_from("<I", data, 4)[0]
             claimed = -(-raw.points // raw.chunk) if raw.chunk != library.COUNTED else min(raw.points, 2**24)
             if _MANY_CHUNKS < count <= claimed and count * raw.record_length > table - first:
                 # each has a record, which stands in it as it is: without a list of all it is known that one has none
                 raise Refused(self.name, BAD_CHUNK)
-            data = self._source.read(table, min(end - table, library.table_room(count)))
+            needed = min(end - table, library.table_room(count))
+            data = data if needed <= len(data) else self._source.read(table, needed)
         chunks = library.read_table(self.name, data, raw.chunk, raw.points, table - first)
         self._firsts = Sums(chunks.sizes) if raw.chunk == library.COUNTED else EvenSums(raw.chunk, raw.points)
         self._places = Sums(chunks.counts, first)
@@ -217,11 +221,16 @@ class LasFile:
         checked_threads(threads)
         start, stop, _ = slice(start, stop).indices(len(self))
         records = np.empty(max(stop - start, 0), self.dtype)
-        pool: ThreadPool[int] = ThreadPool(threads)
-        with Told(progress, len(records)) as told, pool:
-            for done in pool.map(self._jobs(start, records)):
-                told.add(done)
-        return Points(records, self.head)
+        with Told(progress, len(records)) as told:
+            if threads == 1:
+                for chunks in self._groups(start, stop):
+                    told.add(self._run(chunks, start, records))
+            else:
+                pool: ThreadPool[int] = ThreadPool(threads)
+                with pool:
+                    for done in pool.map(self._jobs(start, records)):
+                        told.add(done)
+        return Points._of(records, self.head)
 
     @overload
     def chunks(self, size: int | None = None, *, columns: None = None, threads: int = 1,
@@ -274,7 +283,7 @@ class LasFile:
                 told.add(done)
                 while parts and there >= len(parts[0]):
                     there -= len(parts[0])
-                    points = Points(parts.popleft(), self.head)
+                    points = Points._of(parts.popleft(), self.head)
                     yield points if columns is None else points.columns(columns)
                     del points
 
