@@ -1,5 +1,5 @@
 /* small_files ROUNDS FILE...: how long packed files of one chunk take to be opened and read by a laz_reader, over
- * laz_c_unpack of the same chunk in memory: prints the microseconds a file of both. The least time of each file counts. */
+ * laz_c_unpack of the same chunk in memory: prints the microseconds a file of both. The least time of a file counts. */
 #define _POSIX_C_SOURCE 200809L
 #include <las.h>
 #include <stdio.h>
