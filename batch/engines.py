@@ -8,31 +8,20 @@ import shlex
 import shutil
 import signal
 import subprocess
+import tempfile
 import time
-from collections.abc import Callable
-from types import FrameType
-from typing import Any, Optional
+from collections.abc import Callable, Iterator
+from typing import IO, Any, Optional
 
-from .files import folder_of, sync_folder, write_whole
-from .guard import MARK, end_all
+from .ahead import Stop, Workers, environment_of
+from .files import folder_of, folders_of, is_below, sync_folder, write_whole
+from .guard import end_all
 from .intake import Intake
 from .rows import Row, draft_name, draft_of, read_row
 from .state import DONE, FAILED, MADE, Job, Run
 from .texts import say
 
-SIGNALS = (signal.SIGINT, signal.SIGTERM, signal.SIGHUP, signal.SIGPIPE)
-
-
-class Stop:
-    """Whether a signal asked for an end, and which."""
-
-    def __init__(self) -> None:
-        self.number = 0
-        for number in SIGNALS:
-            signal.signal(number, self.note)
-
-    def note(self, number: int, _: Optional[FrameType]) -> None:
-        self.number = self.number or number
+GROUP = 16  # jobs of a group at most
 
 
 class Lines:
@@ -53,12 +42,14 @@ class Engine:
         self.run, self.intake, self.todo = run, intake, todo
         self.runner, self.las, self.place = runner, las, place
         self.tries = int(run.settings["retries"])
-        self.environment = dict(os.environ, **{MARK: run.token, "LAS_BATCH_PID": str(os.getpid())})
-        self.environment.setdefault("HOME", "/tmp")  # GNU parallel warns if there is none
+        self.environment = environment_of(run.token)
         self.mode = str(run.settings["mode"])
 
     def word(self, job: Job) -> bytes:
         return b"%d%s" % (job.number, b"a" if job.adopt else b"")
+
+    def triple(self, job: Job) -> list[bytes]:
+        return [self.word(job), job.input, job.output]
 
     def write_words(self) -> None:
         words = [str(self.tries).encode(), self.mode.encode(), self.run.token.encode(), self.las,
@@ -81,10 +72,7 @@ class Parallel(Engine):
     """GNU parallel, whose jobs print their rows."""
 
     def go(self, stop: Stop, tick: Callable[[], None]) -> None:
-        errors = os.path.join(self.place, b"errors")
-        with open(errors, "wb") as said:
-            child = subprocess.Popen(self.line(), stdin=subprocess.DEVNULL, stdout=subprocess.PIPE, stderr=said,
-                                     env=self.environment, start_new_session=True)
+        child, errors = self.begin()
         assert child.stdout
         try:
             self.follow(child, stop, tick)
@@ -127,14 +115,15 @@ class Parallel(Engine):
         rows = (read_row(line, self.run.token) for line in self.lines.add(data))
         self.intake.take([row for row in rows if row])
 
-    def show(self, errors: bytes) -> None:
+    def show(self, errors: IO[bytes]) -> None:
         """The last lines of what was said beside the rows, if a job has none."""
         if any(job.state not in (MADE, DONE) and not job.said for job in self.todo):
-            with open(errors, "rb") as file:
-                for line in file.read().splitlines()[-10:]:
-                    say(line.decode(errors="replace"))
+            errors.seek(0)
+            for line in errors.read().splitlines()[-10:]:
+                say(line.decode(errors="replace"))
 
-    def line(self) -> list[bytes]:
+    def begin(self) -> tuple[subprocess.Popen[bytes], IO[bytes]]:
+        """Starts GNU parallel; answers where it writes what is said beside the rows, too."""
         raise NotImplementedError
 
     def unheard(self) -> None:
@@ -142,18 +131,34 @@ class Parallel(Engine):
 
 
 class Here(Parallel):
-    """This machine. Small inputs are run several a job, since a job takes GNU parallel 8 ms."""
+    """This machine. As many jobs of GNU parallel as there are runs at a time, which take groups of inputs in turn."""
 
-    def line(self) -> list[bytes]:
+    def __init__(self, *words: Any, workers: Workers) -> None:
+        super().__init__(*words)
+        self.workers = workers
+
+    def begin(self) -> tuple[subprocess.Popen[bytes], IO[bytes]]:
+        if "v" not in self.mode and self.tries == 1:
+            self.mode += "l"
+            self.intake.later = True
+        if all(is_below(folder, self.run.folder) for folder in folders_of(job.output for job in self.todo)):
+            self.mode += "o"  # so that no lock of its own is needed for each draft
         self.write_words()
-        sent = self.write_sent([[self.word(job), job.input, job.output] for job in self.todo])
-        jobs = self.run.jobs
-        most = len(self.todo) // jobs // 8
+        groups = list(self.groups())
+        self.write_sent([[b"%d" % len(group), *(word for job in group for word in self.triple(job))]
+                         for group in groups])
+        self.workers.begin(self.place, min(self.run.jobs, len(groups)))
+        return self.workers.child, self.workers.errors
+
+    def groups(self) -> Iterator[list[Job]]:
+        """The list in groups: the last ones are small, so that all jobs end at about the same time."""
         size = sum(job.source.size for job in self.todo if job.source)
-        few = max(1, min(most, 16_000_000 * len(self.todo) // (size + 1)))
-        text = self.command(b"bash", self.runner, b"run_all", self.place) + " {}"
-        return [b"parallel", b"--will-cite", b"--plain", b"-0", b"-u", b"--jobs", b"%d" % jobs,
-                b"-N", b"%d" % (3 * few), b"-a", sent, os.fsencode(text)]
+        most = max(1, min(GROUP, 40_000_000 * len(self.todo) // (size + 1)))
+        at = 0
+        while at < len(self.todo):
+            few = max(1, min(most, (len(self.todo) - at) // self.run.jobs // 2))
+            yield self.todo[at:at + few]
+            at += few
 
     def unheard(self) -> None:
         for job in self.todo:
@@ -169,6 +174,11 @@ class Hosts(Parallel):
         self.hosts, self.share, self.ship = hosts, share, ship
         self.log = os.path.join(self.place, b"joblog")
         self.intake.elsewhere, self.intake.shipped = not ship, ship
+
+    def begin(self) -> tuple[subprocess.Popen[bytes], IO[bytes]]:
+        line, errors = self.line(), tempfile.TemporaryFile()
+        return subprocess.Popen(line, stdin=subprocess.DEVNULL, stdout=subprocess.PIPE, stderr=errors,
+                                env=self.environment, start_new_session=True), errors
 
     def line(self) -> list[bytes]:
         with contextlib.suppress(FileNotFoundError):
@@ -186,7 +196,7 @@ class Hosts(Parallel):
             mode += "s"
             self.environment.update(RSYNC_OLD_ARGS="1", PARALLEL_RSYNC_OPTS="-rlDR --ignore-missing-args")
         else:
-            sent = self.write_sent([[self.word(job), job.input, job.output] for job in self.todo])
+            sent = self.write_sent([self.triple(job) for job in self.todo])
             line += [b"--workdir", os.getcwdb()]
         text = self.command(b"bash", runner, b"run", mode.encode(), self.run.token.encode(), las,
                             self.run.command.encode(), *self.run.words, b"--")
@@ -232,7 +242,7 @@ class Slurm(Engine):
     def go(self, stop: Stop, tick: Callable[[], None]) -> None:
         tasks = min(len(self.todo), 1000)
         self.write_words()
-        self.write_sent([[self.word(job), job.input, job.output] for job in self.todo])
+        self.write_sent([self.triple(job) for job in self.todo])
         script = "exec bash " + self.command(self.runner, b"task", self.place)
         share = f"%{self.most}" if self.most else ""
         output = os.path.join(os.path.dirname(os.fsdecode(self.place)), "slurm.%a")
@@ -298,4 +308,4 @@ def new_place(folder: bytes, token: str) -> bytes:
     return place
 
 
-__all__ = ["Here", "Hosts", "Slurm", "Stop", "draft_name", "name_of", "new_place", "still_runs"]
+__all__ = ["Here", "Hosts", "Slurm", "draft_name", "name_of", "new_place", "still_runs"]

@@ -120,6 +120,16 @@ def exchange(one: bytes, other: bytes) -> bool:
         raise
 
 
+def sync_file(path: bytes) -> Identity:
+    """Brings a file to the disk, and answers which one it was."""
+    file = os.open(path, os.O_RDONLY | os.O_NOFOLLOW | os.O_NONBLOCK)
+    try:
+        os.fsync(file)
+        return Identity.of(os.fstat(file))
+    finally:
+        os.close(file)
+
+
 def sync_folder(path: bytes) -> None:
     folder = os.open(path or b".", os.O_RDONLY | os.O_DIRECTORY)
     try:
@@ -138,6 +148,11 @@ def folder_of(path: bytes) -> bytes:
 def folders_of(paths: Iterable[bytes]) -> set[bytes]:
     """The folders of many paths, most of which share one."""
     return {folder_of(head) for head in {path[:path.rfind(b"/") + 1] for path in paths}}
+
+
+def is_below(path: bytes, folder: bytes) -> bool:
+    """Whether a path, its links resolved, is that of a folder, which has no links in its path, or is below it."""
+    return (os.path.realpath(path) + b"/").startswith(folder.rstrip(b"/") + b"/")
 
 
 def make_folders(path: bytes) -> None:

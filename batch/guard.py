@@ -7,9 +7,8 @@ import signal
 import time
 from collections.abc import Iterable
 
+from .ahead import MARK
 from .rows import is_draft
-
-MARK = "LAS_BATCH_TOKEN"
 
 
 def started(token: str) -> list[int]:
@@ -55,12 +54,14 @@ def sweep(folders: Iterable[bytes], token: str) -> None:
 class Guard:
     """A process beside las-batch that waits for its end. If las-batch does not say farewell, it was killed."""
 
-    def __init__(self, token: str, folders: list[bytes]) -> None:
+    def __init__(self, token: str, folders: list[bytes], closed: list[int]) -> None:
+        """`closed` are files that this process closes, since others wait for their end."""
         reading, self.writing = os.pipe()
         self.process = os.fork()
         if self.process == 0:
             try:
-                os.close(self.writing)
+                for file in (self.writing, *closed):
+                    os.close(file)
                 self.watch(reading, token, folders)
             finally:
                 os._exit(0)

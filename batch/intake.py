@@ -9,14 +9,17 @@ from collections.abc import Callable, Iterable
 from concurrent.futures import ThreadPoolExecutor
 from typing import Optional
 
-from .files import Identity, digest, exchange, folder_of, look, make_folders, move_new, sync_folder
+from .files import Identity, digest, exchange, folder_of, look, make_folders, move_new, sync_file, sync_folder
 from .plan import NOT_OURS, key_of
 from .rows import Row, draft_of
 from .state import DONE, HIDING, KEPT, MADE, REMOVED, TODO, Job, Made, Run, State
 from .texts import quoted, say
 from .words import made_by
 
+FAULTS = (OSError, sqlite3.Error)
 CHANGED = "changed"
+OTHER = "no output", b"what the job made is another file now"
+SYNCS = 8  # drafts that are brought to the disk at a time
 
 
 class Clash(Exception):
@@ -42,6 +45,7 @@ class Intake:
         self.jobs = {job.number: job for job in jobs}
         self.by = made_by(run.command, run.words)
         self.elsewhere = self.shipped = False
+        self.later = False  # the jobs leave it to this to bring their drafts to the disk
         self.unsaved: list[Job] = []
 
     def key(self, job: Job) -> bytes:
@@ -66,10 +70,35 @@ class Intake:
             else:
                 job.state, job.status, job.said = MADE, "0", b""
                 good.append(job)
+        if self.later:
+            good, lost = self.sync_drafts(good)
+            failed += lost
         self.save(failed)
         self.name(good)
         for job in failed + good:
             self.note(job)
+
+    def sync_drafts(self, jobs: list[Job]) -> tuple[list[Job], list[Job]]:
+        """Brings drafts to the disk, several at a time: those that are there, and those that can't be brought there."""
+        with ThreadPoolExecutor(SYNCS) as pool:
+            problems = list(pool.map(self.sync_draft, jobs))
+        for job, problem in zip(jobs, problems):
+            if problem:
+                job.fail(*problem)
+                drop(job.draft)
+        return ([job for job, problem in zip(jobs, problems) if not problem],
+                [job for job, problem in zip(jobs, problems) if problem])
+
+    @staticmethod
+    def sync_draft(job: Job) -> Optional[tuple[str, bytes]]:
+        if job.adopt:
+            return None
+        try:
+            if sync_file(job.draft).same_file(job.found):
+                return None
+        except OSError as problem:
+            return "4", told(problem)
+        return OTHER
 
     def misfit(self, job: Job, row: Row) -> Optional[tuple[str, bytes]]:
         """What is wrong with a row of status 0; else the job has what it says."""
@@ -89,17 +118,12 @@ class Intake:
             if self.shipped:
                 if digest(job.draft)[1] != row.output_sum:
                     return "4", b"what came back is not what the host sent"
-                self.sync_file(job.draft)
+                sync_file(job.draft)
             elif job.found[1:4] != row.draft[1:4]:
-                return "no output", b"what the job made is another file now"
+                return OTHER
         except OSError as problem:
             return "4", told(problem)
         return None
-
-    @staticmethod
-    def sync_file(path: bytes) -> None:
-        with open(path, "rb+", buffering=0) as file:
-            os.fsync(file.fileno())
 
     def save(self, jobs: list[Job]) -> bool:
         """Notes jobs in the state. If it can't be written, failed ones stay to do there."""

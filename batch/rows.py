@@ -10,7 +10,7 @@ from .files import Identity, folder_of
 from .state import Job
 
 FIELDS = 13
-DRAFT = re.compile(rb"\.(?:.+\.)?las-[0-9A-Za-z]+-[0-9A-Za-z]+\.(?:part|back|link\.las)")
+DRAFT = re.compile(rb"\.(?:.+\.)?las-([0-9A-Za-z]+)-[0-9A-Za-z]+\.(?:part|back|link\.las)")  # with the token
 
 
 class Row(NamedTuple):

@@ -17,8 +17,6 @@ from .state import MADE, State
 from .texts import quoted, refuse, say
 from .verify import verify
 
-TOOLS = ("verify", "manifest", "clean")
-
 
 def read_words(words: list[str]) -> tuple[dict[str, bytes], list[bytes]]:
     """Options with values, and the other words; -r is a word that `manifest` takes, -unpack one of `verify`."""
@@ -123,8 +121,9 @@ def waiting(folder: bytes) -> Optional[set[bytes]]:
 
 
 def clean(top: bytes) -> int:
-    """Removes the drafts below a folder that no process holds locked."""
+    """Removes the drafts below a folder that no process holds locked, and that no las-batch makes."""
     removed, held, kept = 0, 0, set()
+    above = folder_of(os.path.realpath(top))
     for place, below, names in os.walk(top):
         if b".las-batch" in below:
             below.remove(b".las-batch")
@@ -135,7 +134,7 @@ def clean(top: bytes) -> int:
         for name in names:
             if not DRAFT.fullmatch(name) or any(name.startswith(start) for start in kept):
                 continue
-            if remove_draft(os.path.join(place, name)):
+            if not is_made_above(name, above) and remove_draft(os.path.join(place, name)):
                 removed += 1
             else:
                 held += 1
@@ -156,10 +155,24 @@ def tell_drafts(folders: Iterable[bytes]) -> None:
             for name in filter(DRAFT.fullmatch, os.listdir(folder)):
                 path = os.path.join(folder, name)
                 there = look(path)
-                count += there is not None and there.regular() and there.mtime < newest and is_free(path)
+                count += there is not None and there.regular() and there.mtime < newest and is_free(path) \
+                    and not is_made_above(path, os.path.realpath(folder))
         if count:
             say(f"{quoted(folder)} has {count} drafts of runs that have ended; to remove them: las-batch clean "
                 f"{quoted(folder)}")
+
+
+def is_made_above(draft: bytes, folder: bytes) -> bool:
+    """Whether a las-batch makes a draft: it works in a folder, which has no links in its path, or in one above it."""
+    found = DRAFT.fullmatch(os.path.basename(draft))
+    while found:
+        inside = os.path.join(folder, b".las-batch")
+        if os.path.isdir(os.path.join(inside, b"run." + found.group(1))):
+            return not is_free(os.path.join(inside, b"lock"))
+        if folder == b"/":
+            return False
+        folder = folder_of(folder)
+    return False
 
 
 def is_free(path: bytes) -> bool:

@@ -8,6 +8,7 @@ from typing import Optional
 
 from .texts import quoted, refuse
 
+TOOLS = ("verify", "manifest", "clean")
 COMMANDS = ("laszip", "las2las", "lasinfo")
 VALUES = ("odir", "lof", "jobs", "hosts", "retries", "log", "state", "trash", "manifest", "failed")
 FLAGS = ("r", "force", "verify", "delete", "ship", "slurm", "resume", "quiet", "adopt", "check", "keep-times", "bag")

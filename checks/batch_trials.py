@@ -6,13 +6,17 @@ from pathlib import Path
 
 from batch_places import Tiles, wait_until
 
-WORDS = ["laszip", "-odir", "out", "-verify", "-delete", "tiles/a.las", "tiles/b.las"]
+INPUTS = ["tiles/a.las", "tiles/b.las"]
+WORDS = ["laszip", "-odir", "out", "-verify", "-delete", *INPUTS]
+PLAIN_WORDS = ["laszip", "-odir", "out", *INPUTS]
 TELLING = {"rename", "renameat2", "unlink", "rmdir"}
 TAKING = ["write", "pwrite64", "fsync", "fdatasync", "mkdir", "open64", "rename", "renameat2"]
 
 
 class Trials(Tiles):
     """A folder with a tile that is new, one that was changed after it was packed, and files of others."""
+
+    words = WORDS
 
     def __init__(self, folder: Path, program: str, library: Path) -> None:
         super().__init__(folder / "w", program)
@@ -41,7 +45,7 @@ class Trials(Tiles):
         """A run with a fault, until all that it started has ended."""
         environment = {f"FAULT_{name.upper()}": str(value) for name, value in fault.items()}
         environment.update(LD_PRELOAD=str(self.library), FAULT_FOLDER=str(self.folder))
-        run = self.batch(*(words or WORDS), environment=environment)
+        run = self.batch(*(words or self.words), environment=environment)
         assert wait_until(lambda: self.free("out"), 20), "the folder stays locked"
         return run
 
@@ -73,7 +77,7 @@ class Trials(Tiles):
 
     def said_is_true(self, run: "subprocess.CompletedProcess[bytes]", when: str) -> None:
         """What is counted as done is done, and an input that is said to stay does."""
-        done = sum(data == self.wanted[name] and not self.path(f"tiles/{name[0]}.las").exists()
+        done = sum(data == self.wanted[name] and self.path(f"tiles/{name[0]}.las").exists() != self.removes()
                    for name, data in self.made().items())
         for count, rest in re.findall(rb"(\d+) done, (\d+) not", run.stderr):
             if int(count) + int(rest) == 2:  # it is no earlier run that went on
@@ -84,9 +88,13 @@ class Trials(Tiles):
             assert self.path(name.decode()).exists(), (when, run.stderr)
         assert b"Traceback" not in run.stderr, (when, run.stderr)
 
+    def removes(self) -> bool:
+        return "-delete" in self.words
+
     def all_is_done(self, when: str) -> None:
         assert self.made() == self.wanted, when
-        assert [name for name in self.plain if self.path(f"tiles/{name}.las").exists()] == [], when
+        left = [name for name in self.plain if self.path(f"tiles/{name}.las").exists()]
+        assert left == ([] if self.removes() else list(self.plain)), when
 
     def ours_hidden(self) -> list[str]:
         theirs = {str(self.path(name)) for name in self.others}
@@ -97,7 +105,7 @@ class Trials(Tiles):
         run = self.batch("-resume", "-odir", "out")
         self.nothing_is_lost(f"after -resume, {when}")
         self.said_is_true(run, when)
-        run = self.batch(*WORDS)
+        run = self.batch(*self.words)
         assert run.returncode == 0, (when, run.stderr)
         self.all_is_done(when)
         self.others_stay(when)

@@ -1,9 +1,11 @@
 """las-batch on this machine: both directions, what stays, lists, folders, options of `las`, and reports."""
+import re
 import subprocess
 
 import pytest
 
 import needs
+import programs
 from batch_tiles import Stock, StockTiles, ended, packed
 
 
@@ -186,10 +188,31 @@ def test_verify_and_delete(tiles):
     assert not any(tiles.path(name).exists() for name in names)
 
 
+@pytest.mark.parametrize("words", [[], ["-verify"], ["-retries", "2"], ["-manifest", "sums"]], ids=" ".join)
+def test_each_draft_is_synced_before_it_gets_its_name_and_the_folder_after_it(tiles, words):
+    needs.command("strace", "strace")
+    tiles.path("again").write_text(f'exec strace -f -qq -y -e trace=fsync,renameat2 -o {tiles.path("calls")} "$@"\n')
+    line = ["sh", tiles.path("again"), programs.BATCH, "laszip", "-odir", "out", "-jobs", "2", *words,
+            *tiles.names(100, 140)]
+    subprocess.run(line, check=True, **tiles.options(None, {"stderr": subprocess.DEVNULL}))
+    synced, named = set(), []
+    for call in tiles.path("calls").read_text().splitlines():
+        draft = re.search(r"-([1-9]\d*)\.part\b", call)
+        if "fsync(" in call and draft:
+            synced.add(draft.group(1))
+        elif "renameat2(" in call and draft:
+            assert draft.group(1) in synced, call
+            named.append(draft.group(1))
+        elif re.search(r"fsync\(\d+<[^>]*/out>", call):
+            named.clear()
+    assert len(synced) == 40 and named == []
+
+
 def synced(tiles, script):
     """A run over 40 tiles, one by one, with a script in the place of `sync`, and the drafts that each call has."""
     tiles.command("sync", f'shift; echo "${{@##*-}}" >>{tiles.path("synced")}\n{script}')
-    run = tiles.batch("laszip", "-odir", "out", "-jobs", "1", *tiles.names(100, 140), path=str(tiles.path("bin")))
+    run = tiles.batch("laszip", "-odir", "out", "-jobs", "1", "-retries", "2", *tiles.names(100, 140),
+                      path=str(tiles.path("bin")))
     return run, [line.split() for line in tiles.path("synced").read_text().splitlines()]
 
 

@@ -1,6 +1,8 @@
 """las-batch cut off half way: no output is partial, and -resume does the rest."""
+import contextlib
 import os
 import signal
+import subprocess
 import time
 
 import pytest
@@ -83,6 +85,42 @@ def test_no_job_is_begun_after_a_kill_of_las_batch_and_of_its_guard(tiles):
     assert wait_until(lambda: not processes_with(tiles.folder), 20), processes_with(tiles.folder)
     ended(tiles.batch("-resume", "-odir", "out"), 0, b"200 done, 0 not")
     assert tiles.outputs("out") == tiles.all_packed
+
+
+def test_a_job_that_is_killed_loses_the_inputs_that_it_had_begun_and_no_more(tiles):
+    """One of the jobs of GNU parallel is killed with its group: the others do the rest, and it is started again."""
+    name = tiles.names()[7]
+    las = tiles.command("las", '[ "$1" != --version ] || exit 1\n'
+                        f'[ "$3" != {name} ] || kill -9 $PPID\nexec {tiles.program} "$@"')
+    run = tiles.batch("laszip", "-odir", "out", "-jobs", "1", *tiles.names(), las=str(las))
+    left = 200 - len(tiles.outputs("out"))
+    assert 1 <= left <= 16, run.stderr
+    ended(run, 1, b"%d done, %d not" % (200 - left, left))
+    assert tiles.parts() == []
+    ended(tiles.batch("-resume", "-odir", "out"), 0, b"200 done, 0 not")
+    assert tiles.outputs("out") == tiles.all_packed
+
+
+def test_a_run_that_is_refused_leaves_no_process(tiles):
+    """What is started before the plan is made ends with it, and so does what that has started."""
+    tiles.command("parallel", "sleep 300 &\nexec sleep 300")
+    words = ["laszip", "-odir", "out", "-lof", "-"]
+    with tiles.running(*words, stdin=subprocess.PIPE, path=str(tiles.path("bin"))) as run:
+        assert wait_until(lambda: len(those_in(tiles.folder)) == 3), those_in(tiles.folder)
+        run.stdin.write(b"tile.txt\n")
+        run.stdin.close()
+        assert run.wait(60) == 2 and b"ends in .las or .laz" in run.stderr.read()
+    assert wait_until(lambda: not those_in(tiles.folder), 5), those_in(tiles.folder)
+
+
+def those_in(folder):
+    """The processes that work in a folder."""
+    found = []
+    for name in filter(str.isdigit, os.listdir("/proc")):
+        with contextlib.suppress(OSError):
+            if os.readlink(f"/proc/{name}/cwd") == str(folder):
+                found.append(name)
+    return found
 
 
 def status_of(process):

@@ -9,7 +9,7 @@ import pytest
 
 import needs
 import programs
-from batch_places import Tiles
+from batch_places import Tiles, wait_until
 from batch_tiles import ODD, ended
 
 
@@ -387,6 +387,37 @@ def test_clean_is_refused_while_a_run_lives(tiles):
     with open(tiles.path("out/.las-batch/lock"), "rb") as held:
         fcntl.flock(held, fcntl.LOCK_EX)
         ended(tiles.batch("clean", "out"), 2, b"a las-batch works in")
+
+
+@pytest.mark.parametrize("linked", [False, True], ids=["a folder below", "a folder elsewhere, by a link"])
+def test_clean_of_a_folder_below_leaves_what_a_run_above_makes(tiles, linked):
+    for number in range(8):
+        tiles.make(f"tiles/sub/{number}.las")
+    tiles.path("out").mkdir()
+    tiles.path("elsewhere").mkdir()
+    if linked:
+        tiles.path("out/sub").symlink_to(tiles.path("elsewhere"))
+    with tiles.running("laszip", "-odir", "out", "-jobs", "2", "-r", "tiles", las=tiles.slow(0.4)) as run:
+        assert wait_until(tiles.parts)
+        time.sleep(0.1)  # until the draft is locked
+        cleaned = tiles.batch("clean", "elsewhere" if linked else "out/sub")
+        assert b"las-batch: 0 drafts removed, " in cleaned.stderr and b" 0 are in use" not in cleaned.stderr
+        assert run.wait(60) == 0
+    assert sorted(path.name for path in tiles.path("out/sub").iterdir()) == [f"{number}.laz" for number in range(8)]
+
+
+def test_clean_of_a_folder_below_removes_what_a_killed_run_above_left(tiles):
+    tiles.path("out/sub").mkdir(parents=True)
+    tiles.path("out/.las-batch/run.0123456789abcdef").mkdir(parents=True)
+    tiles.path("out/.las-batch/lock").write_bytes(b"")
+    draft = tiles.path("out/sub/.las-0123456789abcdef-12.part")
+    draft.write_bytes(b"x")
+    with open(tiles.path("out/.las-batch/lock"), "rb") as held:
+        fcntl.flock(held, fcntl.LOCK_EX)
+        ended(tiles.batch("clean", "out/sub"), 0, b"0 drafts removed, 1 are in use")
+    assert draft.exists()
+    ended(tiles.batch("clean", "out/sub"), 0, b"1 drafts removed, 0 are in use")
+    assert not draft.exists()
 
 
 @pytest.mark.alone

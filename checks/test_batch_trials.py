@@ -9,7 +9,7 @@ from pathlib import Path
 import pytest
 
 import needs
-from batch_trials import TAKING, TELLING, Trials
+from batch_trials import PLAIN_WORDS, TAKING, TELLING, Trials
 
 PARTS = 32  # of all calls, beside the first
 
@@ -107,6 +107,31 @@ def test_a_full_disk_at_each_call(trials, part, fault):
 def test_an_input_that_is_replaced_before_each_call(trials, part):
     for at, when in each(trials, part):
         trials.replaced(at, when)
+
+
+def each_of_a_plain_run(trials, names, after=0):
+    """The calls of these names, and some after each, of a run that removes no input and has the drafts synced last."""
+    trials.words = PLAIN_WORDS
+    calls = trials.calls()
+    assert calls.count("fsync") > 4 and "renameat2" in calls, calls
+    chosen = {at + more for at, name in enumerate(calls, 1) if name in names for more in range(after + 1)}
+    for at in sorted(chosen & set(range(1, len(calls) + 1))):
+        trials.again()
+        yield at, f"at call {at} of {len(calls)}, {calls[at - 1]}"
+
+
+@pytest.mark.slow
+def test_a_kill_before_each_sync_and_name_of_a_plain_run(trials):
+    for at, when in each_of_a_plain_run(trials, {"fsync", "rename", "renameat2"}, after=1):
+        trials.kill(at, "before", when)
+        trials.ends_well(when)
+
+
+@pytest.mark.slow
+def test_an_error_of_each_sync_and_name_of_a_plain_run(trials):
+    for at, when in each_of_a_plain_run(trials, {"fsync", "rename", "renameat2"}, after=1):
+        trials.error(at, errno.EIO, when)
+        trials.ends_well(when)
 
 
 RESUME = ["-resume", "-odir", "out"]
