@@ -23,19 +23,26 @@ top=${self%/*}
 help=$top/help
 [ -f "$top/crates.txt" ] || help=$top/../share/las/help
 
-# What has to stay as it is for the program $1 to be the right one: the sources, the release, the build, the program,
-# and the machine with its C library, by which it is chosen. It is called in a subshell, which it replaces.
+# What has to stay as it is for `program` to be the right one: the sources, which `watched` names with their folders, the
+# release, the build, the program, and the C library of the machine. What changes a file, or the names in a folder, sets
+# its ctime, which nobody can set back. It is called in a subshell, which it replaces.
 listing() {
-    printf '%s\n%s\n' "$1" "$boot"
-    CDPATH='' cd -P -- "$top" && exec find crates.txt release/BUILT_FROM crates/las/out/las \
-        crates/las/out/las.built_from crates/las/out/las.stamp crates/*/src "$1" \
-        /lib64/ld-linux-x86-64.so.2 /lib/ld-linux-aarch64.so.1 \
-        -printf '%p %y %s %T@ %C@ %D %i\n' 2>/dev/null
+    set -f
+    IFS='
+'
+    # shellcheck disable=SC2086
+    CDPATH='' cd -P -- "$top" && exec stat -L -c '%.9Z %i' -- "$program" release/BUILT_FROM crates/las/out/las \
+        crates/las/out/las.built_from crates/las/out/las.stamp /lib64/ld-linux-x86-64.so.2 \
+        /lib/ld-linux-aarch64.so.1 $watched 2>/dev/null
 }
 
-# Sets `program` as the stamp $1 names it, if that still holds.
+# Sets `program` as the stamp $1 names it, if that still holds. A stamp is words of the shell, which takes them in without
+# another process: `program`, `booted`, `watched` and `listed`.
 stamped() {
-    [ -r "$1" ] && read -r program <"$1" && [ -n "$program" ] && listing "$program" | cmp -s - "$1" || return 1
+    program='' booted='' watched='' listed=''
+    # shellcheck disable=SC1090
+    if [ -r "$1" ]; then command . "$1" 2>/dev/null; fi
+    [ -n "$program" ] && [ "$booted" = "$boot" ] && [ "$(listing)" = "$listed" ] || return 1
     case $program in /*) ;; *) program=$top/$program ;; esac
 }
 

@@ -45,7 +45,7 @@ esac
 """
 
 TOOLS = ("sh awk cat chmod cmp cut df dirname env find grep gzip mkdir mktemp mv readlink rm rmdir sed sha256sum sleep "
-         "sort tail tee tr true uname wc xargs").split()
+         "sort stat tail tee tr true uname wc xargs").split()
 RELEASE = ("sources", "choose.sh", "build.sh", "processor.sh", "systems.sh", "make", "build_for", "link", "library",
            "spdx", "module", "wasm")
 C_SOURCES = ("c/las.h", "c/laz_file.h", "c/laz_reader.c", "c/laz_writer.c", "c/laz_paths.c")

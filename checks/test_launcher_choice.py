@@ -61,6 +61,41 @@ def old_time(at):
     os.utime(at.source(), ns=(old.st_atime_ns, old.st_mtime_ns))
 
 
+def other_file(at):
+    at.ran("laszip")
+    old, new = at.source(), at.path("new.rt")
+    new.write_text("pub fn abc() {}\n")
+    os.utime(new, ns=(old.stat().st_atime_ns, old.stat().st_mtime_ns))
+    new.rename(old)
+
+
+def link_to_another(at):
+    at.path("one.rt").write_text(FIRST)
+    at.source().unlink()
+    at.source().symlink_to(at.path("one.rt"))
+    at.ran("laszip")
+    at.path("one.rt").write_text("pub fn abc() {}\n")
+
+
+def added_folder(at):
+    at.ran("laszip")
+    at.path("crates", "las", "src", "more").mkdir()
+    at.path("crates", "las", "src", "more", "lib.rt").write_text("")
+
+
+def removed_source(at):
+    at.source("las", "more.rt").write_text("")
+    at.ran("laszip")
+    at.source("las", "more.rt").unlink()
+
+
+def other_folder(at):
+    at.ran("laszip")
+    at.path("crates", "low").rename(at.path("old"))
+    shutil.copytree(at.path("old"), at.path("crates", "low"))
+    at.source().write_text("pub fn abc() {}\n")
+
+
 def other_crate(at):
     at.ran("laszip")
     at.source("other").write_text("fn main() { }\n")
@@ -110,6 +145,11 @@ STATES = {
     "a source of another name": (other_name, None),
     "a source that has its name again": (name_again, "released"),
     "a changed source with its old time": (old_time, None),
+    "another file in the place of a source, of its time and size": (other_file, None),
+    "a changed source that is named by a link": (link_to_another, None),
+    "an added folder of sources": (added_folder, None),
+    "a source that is removed: the release again": (removed_source, "released"),
+    "another folder in the place of a crate": (other_folder, None),
     "a changed source of a crate that the program does not stand on": (other_crate, "released"),
     "a build runs without rt": (built, "own"),
     "a build that is older than a source": (built_earlier, None),
@@ -140,6 +180,24 @@ def test_changed_source_is_built_with_rt(checkout, start):
         assert said == ""
     assert found == "own"
     assert checkout.builds.read_text() == "built\n"
+
+
+@pytest.mark.parametrize("damage", [
+    lambda stamp: b"", lambda stamp: bytes(len(stamp)), lambda stamp: stamp[:len(stamp) // 2], lambda stamp: stamp[:20],
+    lambda stamp: stamp + b"(", lambda stamp: stamp.replace(b"program='release/out/las", b"program='release/out/gone"),
+    lambda stamp: b"return 3\n" + stamp, lambda stamp: stamp.replace(b"listed=", b"fisted=")],
+    ids=["empty", "zeros", "half of it", "its first bytes", "a word too many", "a program that is not there",
+         "words that end it", "without what is listed"])
+def test_stamp_that_is_damaged_is_passed_over(checkout, damage):
+    assert checkout.ran("laszip") == ("released", "")
+    stamp = checkout.path("release", "out", "stamp")
+    whole = stamp.read_bytes()
+    assert b"listed='1" in whole and b"crates/low/src/lib.rt" in whole and b"crates/other" not in whole
+    stamp.write_bytes(damage(whole))
+    assert [checkout.ran("laszip") for _ in range(2)] == [("released", "")] * 2
+    checkout.source().write_text("pub fn two() {}\n")
+    stamp.write_bytes(damage(whole))
+    assert checkout.ran("laszip")[0] is None
 
 
 def test_build_says_how_far_it_is(checkout):

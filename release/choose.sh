@@ -6,8 +6,18 @@ true >&2 || exec 2>/dev/null
 . "$top/release/processor.sh"
 . "$top/release/build.sh"
 
+# The names of the sources of `las` and of the crates that it stands on, and of their folders
+source_names() {
+    CDPATH='' cd -P -- "$top" || return 1
+    set -- crates.txt
+    for crate in $(release/sources --crates); do set -- "$@" "crates/$crate/src"; done
+    find "$@" -print
+}
+
 # What `find` tells of the sources alone
-source_listing() { listing crates.txt | grep ' [df] ' | grep -v -e '^crates/las/out/' -e '^release/'; }
+source_listing() {
+    CDPATH='' cd -P -- "$top" && find crates.txt crates/*/src -printf '%p %y %s %T@ %C@ %D %i\n' 2>/dev/null
+}
 
 # Whether crates/las/out/las is a build from the sources with the sum $1: that is noted beside it, or `rt run` has left
 # its own stamp, which it does only if nothing was changed meanwhile, and no source was touched since.
@@ -72,15 +82,24 @@ released() {
     return 1
 }
 
-# Writes the stamp for the program $1 in one of the two places, if one can be written; renamed, so that it is whole.
+# Writes the stamp for the program $1 in one of the two places, if one can be written; renamed, so that it is whole. There
+# is none if a source was changed since it was read, if `find` or `stat` can't tell of changes here, or if a name has a
+# quotation mark.
 stamp_program() {
+    program=$1
+    watched=$(source_names)
+    listed=$(listing)
+    now=$(source_listing)
+    if [ "$before" != "$now" ]; then return; fi
+    case $now in 'crates.txt f '*) ;; *) return ;; esac
+    case $listed in [0-9]*.[0-9]*\ [0-9]*) ;; *) return ;; esac
+    case $program$watched in *\'*) return ;; esac
     for stamp in "$top/release/out/stamp" "$kept_stamp"; do
         folder=${stamp%/*}
         mkdir -p -- "$folder" 2>/dev/null && fresh=$(mktemp "$folder/.stamp.XXXXXX" 2>/dev/null) || continue
-        (listing "$1") >"$fresh"
-        # (where `find` can't list, no stamp would tell a change)
         # (readable, for others who use this checkout)
-        grep -q '^crates.txt f ' "$fresh" && chmod 644 "$fresh" && mv -f -- "$fresh" "$stamp" && return
+        printf "%s='%s'\\n" program "$program" booted "$boot" watched "$watched" listed "$listed" >"$fresh" &&
+            chmod 644 "$fresh" && mv -f -- "$fresh" "$stamp" && return
         rm -f -- "$fresh"
     done
 }
@@ -122,7 +141,7 @@ else
 fi
 case $chosen in
 */las-once.*/*) ;;
-"$top"/*) if [ "$before" = "$(source_listing)" ]; then stamp_program "${chosen#"$top"/}"; fi ;;
-*) if [ "$before" = "$(source_listing)" ]; then stamp_program "$chosen"; fi ;;
+"$top"/*) stamp_program "${chosen#"$top"/}" ;;
+*) stamp_program "$chosen" ;;
 esac
 printf '%s\n' "$chosen"
