@@ -99,12 +99,11 @@ def test_guarantees_of_every_crate():
 
 
 def test_edits():
-    """docs/gate.md names each must-fail edit, beside its crate, and no other."""
+    """docs/gate.md names each edit of the gate, beside its crate, and no other."""
     section = text_of("docs/gate.md").partition("## Which edits turn which promise\n")[2].partition("\n## ")[0]
     named = {f"{crate}/{edit}" for group, crate in re.findall(r"((?:`\w+`(?:, | and )?)+) \(`(\w+)`\)", section)
              for edit in SPAN.findall(group)}
-    there = {f"{path.parent.parent.name}/{path.stem}" for crate in listed_crates()
-             for path in (TOP / "crates" / crate / "must-fail").glob("*.edit")}
+    there = {f"{path.parent.name}/{path.stem}" for path in (TOP / "edits" / "gate").glob("*/*.edit")}
     assert there
     assert sorted(named) == sorted(there)
 

@@ -1,20 +1,24 @@
-"""Wrong bodies that are kept beside the gate: each can be applied, and what tries them fails if one is not refused."""
+"""Wrong bodies, of the gate and beside it: each can be applied, and what tries them fails if one is not refused."""
+import fcntl
 import os
 import re
 import shutil
+import signal
 import subprocess
+import sys
+import time
 from pathlib import Path
 
 import pytest
 
-import needs
 from programs import TOP
 
-EDITS = sorted([*TOP.glob("edits/*/*.edit"), *TOP.glob("crates/*/must-fail/*.edit")])
+GATE = sorted(TOP.glob("edits/gate/*/*.edit"))
+EDITS = sorted([*GATE, *(path for path in TOP.glob("edits/*/*.edit") if path.parent.name != "gate")])
 
 
 def crate_of(edit: Path) -> str:
-    return edit.parts[edit.parts.index("must-fail") - 1] if "must-fail" in edit.parts else edit.parent.name
+    return edit.parent.name
 
 
 def pairs(edit: Path) -> "list[tuple[str, str, str]]":
@@ -53,80 +57,191 @@ def test_names_tell_edits_of_a_crate_apart() -> None:
     assert all(re.fullmatch(r"[a-z][a-z0-9_]*[a-z0-9]", name) for _, name in names)
 
 
-RT = """#!/bin/sh
-for edit in crates/$3/must-fail/*.edit; do
-    name=$(basename "$edit")
-    [ "$SAID" = nothing ] || echo "rt: must-fail $3/$name: $SAID"
+RATTLE = r"""#!/bin/sh
+# says of each function that --only names what $SAID tells
+whole=1
+names=
+while [ $# -gt 0 ]; do
+    case $1 in
+    --only) whole=; shift; names="$names $1" ;;
+    -o) mkdir -p "$2"; : >"$2/format"; echo built >>"$LOG"; exit 0 ;;
+    esac
+    shift
 done
+echo "check$names" >>"$LOG"
+[ -z "${WAITS-}" ] || { sleep 60 & wait; }
+number=0
+for name in $names ${whole:+f}; do
+    number=$((number + 1))
+    case $SAID in
+    proved) echo "fn one::$name: proved" ;;
+    answers) echo "./proofs/$name/Answers.antt:3:1: error: this does not fit"; echo "fn one::$name: not proved" ;;
+    cites) echo "./proofs/$name/Answers.antt:3:1: error: \`g\` was not admitted"; echo "fn one::$name: not proved" ;;
+    unread) echo "src/lib.rt:1:8: error: \`f\`: \`h\` is not in scope"; echo "fn one::$name: not proved" ;;
+    compile) echo "src/lib.rt:1:8: error[unknown-name]: no h"; exit 1 ;;
+    limit) echo "src/lib.rt:1:8: error: antt ran out of stack"; exit 3 ;;
+    killed) kill -9 $$ ;;
+    *) echo "note: src/lib.rt:1:8: it is not proved that $SAID (\`it\`)"; echo "fn one::$name: no proof: expected" ;;
+    esac
+done
+case $SAID in
+proved) [ -n "$whole" ] && echo logic=proved || echo "only=$number proved=$number"; exit 0 ;;
+*) [ -n "$whole" ] && echo logic=not-proved || echo "only=$number proved=0"; exit 1 ;;
+esac
 """
 
 
 @pytest.fixture
 def tree(tmp_path: Path) -> Path:
-    """A checkout of one crate with an edit of the gate and one beside it, and an `rt` that says $SAID of each."""
-    needs.command("git", "git")
-    for name, text in [("crates/one/src/lib.rt", "fn f() { g(1) }\n"),
-                       ("crates/one/must-fail/two.edit", "file: src/lib.rt\nold: g(1)\nnew: g(2)\n"),
-                       ("edits/one/three.edit", "file: src/lib.rt\nold: g(1)\nnew: g(3)\n")]:
+    """A checkout of one crate with an edit of the gate and one beside it, and a kit whose prover says $SAID of each."""
+    for name, text in [("crates.txt", "one:\nupper: one\n"),
+                       ("crates/one/src/lib.rt", "fn f() { g(1) }\n\nfn h() { g(2) }\n"),
+                       ("crates/upper/src/lib.rt", "fn f() { g(1) }\n"),
+                       ("edits/gate/one/two.edit", "file: src/lib.rt\nold: g(1)\nnew: g(3)\n"),
+                       ("edits/one/three.edit", "file: src/lib.rt\nold: g(2)\nnew: g(3)\n"),
+                       ("kit/KIT-ID", "a kit"), ("kit/START-HERE.md", ""), ("kit/bin/rattle", RATTLE),
+                       ("bin/rt", f"#!/bin/sh\necho {tmp_path}/kit/START-HERE.md\n"), ("log", "")]:
         (tmp_path / name).parent.mkdir(parents=True, exist_ok=True)
         (tmp_path / name).write_text(text)
     (tmp_path / ".ci").mkdir()
-    shutil.copy2(TOP / ".ci" / "edits", tmp_path / ".ci")
-    (tmp_path / "bin").mkdir()
-    (tmp_path / "bin" / "rt").write_text(RT)
-    (tmp_path / "bin" / "rt").chmod(0o755)
-    for line in (["git", "init", "-q"], ["git", "add", "crates", "edits"]):
-        subprocess.run(line, cwd=tmp_path, check=True)
+    (tmp_path / "tmp").mkdir()
+    for name in ("edits", "scratch.py"):
+        shutil.copy2(TOP / ".ci" / name, tmp_path / ".ci")
+    for name in ("bin/rt", "kit/bin/rattle"):
+        (tmp_path / name).chmod(0o755)
     return tmp_path
 
 
-def tried(tree: Path, said: str, *words: str) -> "subprocess.CompletedProcess[str]":
-    environment = {**os.environ, "SAID": said, "PATH": f"{tree / 'bin'}:{os.environ['PATH']}"}
-    return subprocess.run([tree / ".ci" / "edits", *words], env=environment, cwd=tree, check=False, text=True,
-                          stdout=subprocess.PIPE, stderr=subprocess.PIPE)
+def begun(tree: Path, said: str, *words: str, **more: str) -> "subprocess.Popen[str]":
+    environment = {**os.environ, "SAID": said, "LOG": str(tree / "log"), "TMPDIR": str(tree / "tmp"),
+                   "XDG_CACHE_HOME": str(tree / "cache"), "PATH": f"{tree / 'bin'}:{os.environ['PATH']}", **more}
+    return subprocess.Popen([sys.executable, tree / ".ci" / "edits", "--jobs", "1", *words], env=environment, cwd=tree,
+                            text=True, stdout=subprocess.PIPE, stderr=subprocess.PIPE)
 
 
-@pytest.mark.parametrize("reason, place", [
-    (": src/lib.rt:1:1: error: it is not proved: `ensures-bytes`", "clause"),
-    (": src/lib.rt:1:1: error: it is not proved: the invariant of `loop-at`", "invariant"),
-    (": src/lib.rt:1:1: error: it is not proved: `g-requires-clause-room`", "requires"),
-    (": ./proofs/f/Answers.antt:3:1: error: `returns` does not fit", "proof"),
-    (" (only because a proof file names what the edit took away): proofs/f/Answers.antt:3:1: error", "proof"),
-    (" (only by a limit of the prover, which gave no verdict): src/lib.rt:1:1: error", "limit"),
-])
-def test_a_refused_edit_is_told_with_its_place(tree: Path, reason: str, place: str) -> None:
-    run = tried(tree, f"refused, as it must be{reason}")
-    assert (run.returncode, run.stderr) == (0, "")
-    rows = [line.split(" | ") for line in run.stdout.splitlines() if line.startswith("| `")]
-    assert [row[:3] for row in rows] == [["| `one`", "`three`", place], ["| `one`", "`two`", place]]
+def tried(tree: Path, said: str, *words: str) -> "tuple[int, list[list[str]], str]":
+    """The status, the rows of the table, and what was said besides."""
+    run = begun(tree, said, *words)
+    out, err = run.communicate(timeout=60)
+    rows = [line.strip("| ").split(" | ")[:3] for line in out.splitlines() if line.startswith("| `")]
+    assert list((tree / "tmp").iterdir()) == []
+    return run.returncode, rows, err
+
+
+def log(tree: Path) -> "list[str]":
+    return (tree / "log").read_text().splitlines()
 
 
 @pytest.mark.parametrize("said, place", [
-    ("NOT REFUSED: the crate is still proved with this edit", "not refused"),
-    ("BAD EDIT: an 'old:' text is in src/lib.rt 0 times, and not once", "bad edit"),
-    ("NOT TRIED: its check was killed", "not tried"),
-    ("nothing", "not tried"),
+    ("what the function ensures holds when it returns", "clause"),
+    ("the invariant of the loop holds", "invariant"),
+    ("what `g` requires holds at this call", "requires"),
+    ("the sum fits its type", "requires"),
+    ("answers", "proof"),
+    ("limit", "limit"),
+])
+def test_a_refused_edit_is_told_with_its_place(tree: Path, said: str, place: str) -> None:
+    status, rows, _ = tried(tree, said)
+    assert status == 0
+    assert rows == [["`one`", "`three`", place], ["`one`", "`two`", place]]
+
+
+def test_edits_of_two_functions_share_a_check(tree: Path) -> None:
+    assert tried(tree, "what the function ensures holds")[0] == 0
+    assert log(tree) == ["check f h"]
+
+
+@pytest.mark.parametrize("said, place", [
+    ("proved", "proved"),
+    ("unread", "bad edit"),
+    ("compile", "bad edit"),
+    ("killed", "not tried"),
 ])
 def test_an_edit_that_is_not_refused_fails(tree: Path, said: str, place: str) -> None:
-    run = tried(tree, said)
-    assert run.returncode == 1
-    assert f"edits: one/two: {place}: " in run.stderr
-    assert f"edits: one/three: {place}: " in run.stderr
+    status, rows, err = tried(tree, said)
+    assert status == 1
+    assert rows == [["`one`", "`three`", place], ["`one`", "`two`", place]]
+    assert f"edits: one/two: {place}: " in err
+    assert f"edits: one/three: {place}: " in err
 
 
-def test_an_edit_that_changes_spaces_alone_fails(tree: Path) -> None:
-    (tree / "edits" / "one" / "three.edit").write_text("file: src/lib.rt\nold: g(1)\nnew: g( 1 ) // the same\n")
-    run = tried(tree, "refused, as it must be")
-    assert run.returncode == 1
-    assert "edits: one/three: changes nothing" in run.stderr
+def test_an_edit_that_passes_by_itself_is_tried_in_the_whole_crate(tree: Path) -> None:
+    assert tried(tree, "proved", "--gate")[0] == 1
+    assert log(tree) == ["check f", "check"]
 
 
-def test_those_of_the_gate_alone(tree: Path) -> None:
-    run = tried(tree, "refused, as it must be", "--gate", "one")
-    assert "`two`" in run.stdout
-    assert "`three`" not in run.stdout
+def test_what_another_proof_cites_counts_for_that_one_alone(tree: Path) -> None:
+    assert tried(tree, "cites")[0] == 0
+    assert log(tree) == ["check f h", "check f", "check h"]
 
 
-def test_a_crate_that_is_not_there(tree: Path) -> None:
-    run = tried(tree, "refused, as it must be", "four")
-    assert (run.returncode, run.stderr) == (1, "edits: there is no crate four\n")
+@pytest.mark.parametrize("text, place", [
+    ("file: src/lib.rt\nold: g(2)\nnew: g( 2 ) // the same\n", "changes nothing"),
+    ("file: src/lib.rt\nold: g(4)\nnew: g(5)\n", "bad edit"),
+    ("file: src/lib.rt\nold: g(\nnew: h(\n", "bad edit"),
+    ("file: src/other.rt\nold: g(2)\nnew: g(5)\n", "bad edit"),
+    ("g(2)\n", "bad edit"),
+])
+def test_an_edit_that_cannot_be_tried_fails(tree: Path, text: str, place: str) -> None:
+    (tree / "edits" / "one" / "three.edit").write_text(text)
+    status, rows, _ = tried(tree, "what the function ensures holds")
+    assert status == 1
+    assert rows == [["`one`", "`three`", place], ["`one`", "`two`", "clause"]]
+
+
+def test_those_of_the_gate_alone_and_one_by_its_name(tree: Path) -> None:
+    assert tried(tree, "answers", "--gate")[1] == [["`one`", "`two`", "proof"]]
+    assert tried(tree, "answers", "one/three")[1] == [["`one`", "`three`", "proof"]]
+
+
+def test_what_is_not_there(tree: Path) -> None:
+    assert tried(tree, "answers", "four") == (1, [], "edits: there is no crate four\n")
+    assert tried(tree, "answers", "one/four") == (1, [], "edits: there is no edit one/four\n")
+
+
+def test_a_run_goes_on_where_an_earlier_one_was(tree: Path) -> None:
+    assert tried(tree, "answers", "one/two")[0] == 0
+    assert tried(tree, "proved")[1] == [["`one`", "`three`", "proved"], ["`one`", "`two`", "proof"]]
+    assert tried(tree, "proved", "--anew", "one/two")[0] == 1
+    (tree / "crates" / "one" / "src" / "lib.rt").write_text("fn f() { g(1) }\n\nfn h() { g(2) }\n\nfn i() {}\n")
+    assert tried(tree, "proved", "one/two")[0] == 1
+
+
+def test_a_library_is_taken_if_it_is_of_these_sources_and_else_built(tree: Path) -> None:
+    (tree / "edits" / "upper").mkdir()
+    (tree / "edits" / "upper" / "five.edit").write_text("file: src/lib.rt\nold: g(1)\nnew: g(2)\n")
+    assert tried(tree, "answers", "upper")[0] == 0
+    assert log(tree) == ["built", "check f"]
+    library = tree / "crates" / "one" / "out" / "rlib" / "one.rlib"
+    library.mkdir(parents=True)
+    (library / "format").write_text("")
+    assert tried(tree, "answers", "--anew", "upper")[0] == 0
+    assert log(tree) == ["built", "check f", "check f"]
+    later = time.time() + 10
+    os.utime(tree / "crates" / "one" / "src" / "lib.rt", (later, later))
+    assert tried(tree, "answers", "--anew", "upper")[0] == 0
+    assert log(tree) == ["built", "check f", "check f", "built", "check f"]
+
+
+@pytest.mark.parametrize("number", [signal.SIGINT, signal.SIGTERM])
+def test_nothing_is_left_after_an_interrupt(tree: Path, number: signal.Signals) -> None:
+    run = begun(tree, "answers", WAITS="1")
+    end = time.monotonic() + 30
+    while not log(tree) and time.monotonic() < end:
+        time.sleep(0.05)
+    run.send_signal(number)
+    run.communicate(timeout=30)
+    assert run.returncode == 128 + number
+    assert list((tree / "tmp").iterdir()) == []
+
+
+def test_what_a_killed_run_left_is_removed_unless_it_is_held(tree: Path) -> None:
+    for name in ("balsamvise-killed", "balsamvise-held"):
+        (tree / "tmp" / name / "one-1").mkdir(parents=True)
+        (tree / "tmp" / name / "lock").write_text("")
+    with (tree / "tmp" / "balsamvise-held" / "lock").open() as lock:
+        fcntl.flock(lock, fcntl.LOCK_EX)
+        begun(tree, "answers").communicate(timeout=60)
+        assert [path.name for path in (tree / "tmp").iterdir()] == ["balsamvise-held"]
+    begun(tree, "answers").communicate(timeout=60)
+    assert list((tree / "tmp").iterdir()) == []
