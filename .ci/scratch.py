@@ -125,8 +125,8 @@ def link_or_copy(one: str, other: str) -> str:
 class Lab:
     """A folder in which crates are checked over libraries, and what to say of how each check ended."""
 
-    def __init__(self, tree: Path, folder: Path, kit: Path) -> None:
-        self.tree, self.folder, self.kit = tree, folder, kit
+    def __init__(self, trees: Sequence[Path], folder: Path, kit: Path) -> None:
+        self.trees, self.folder, self.kit = [tree.resolve() for tree in trees] or [TOP], folder, kit
         self.crates = crates_in(TOP)
         self.running: Set["subprocess.Popen[str]"] = set()
         self.stopping = False
@@ -206,40 +206,41 @@ class Lab:
             if (TOP / "crates" / name / part).is_dir():
                 shutil.copytree(TOP / "crates" / name / part, room / part)
 
-    def is_fresh(self, name: str) -> bool:
-        """Whether the tree has the library of a crate, of the sources here, and made after their last change."""
-        library = self.tree / "crates" / name / "out" / "rlib" / f"{name}.rlib"
+    def is_in(self, tree: Path, name: str) -> bool:
+        """Whether a tree has the library of a crate, of the sources here, and made after their last change."""
+        library = tree / "crates" / name / "out" / "rlib" / f"{name}.rlib"
         if not (library / "format").is_file():
             return False
         made = library.stat().st_mtime
         for crate in (*below(self.crates, name), name):
-            here, there = sources_of(TOP, crate), sources_of(self.tree, crate)
+            here, there = sources_of(TOP, crate), sources_of(tree, crate)
             if here.keys() != there.keys() or any(path.stat().st_mtime > made for path in there.values()):
                 return False
-            if TOP != self.tree and any(here[it].read_bytes() != there[it].read_bytes() for it in here):
+            if TOP != tree and any(here[it].read_bytes() != there[it].read_bytes() for it in here):
                 return False
         return True
 
-    def take(self, name: str) -> None:
-        """Takes a library from the tree, by links if they can be made: who makes it anew removes the old one first."""
-        from_tree, to = self.tree / "crates" / name / "out" / "rlib" / f"{name}.rlib", self.rlib(name)
-        shutil.copytree(from_tree, to, copy_function=link_or_copy)
+    def take(self, tree: Path, name: str) -> None:
+        """Takes a library from a tree, by links if they can be made: who makes it anew removes the old one first."""
+        library = tree / "crates" / name / "out" / "rlib" / f"{name}.rlib"
+        shutil.copytree(library, self.rlib(name), copy_function=link_or_copy)
 
     def build(self, name: str) -> None:
         """Builds a library that the tree does not have."""
-        print(f"edits: {name}: {self.tree} has no library of these sources, so it is built", file=sys.stderr)
+        print(f"{name}: there is no library of these sources, so it is built", file=sys.stderr, flush=True)
         room = self.room(name)
         self.rlib(name).parent.mkdir(parents=True, exist_ok=True)
         status, said, _ = self.run(["build", *self.words(name), "--statements", "-o", str(self.rlib(name))], room)
         shutil.rmtree(room)
         if status:
-            sys.exit(f"edits: {name} is not proved without an edit, so none can be tried:\n{said[-2000:]}")
+            sys.exit(f"{name} is not proved as it stands:\n{said[-2000:]}")
 
     def provide(self, names: Set[str]) -> None:
-        """Takes the libraries of these crates from the tree, and builds those that it does not have."""
+        """Takes the libraries of these crates from the trees, and builds those that none of them has."""
         for name in self.crates:
             if name in names:
-                if self.is_fresh(name):
-                    self.take(name)
+                tree = next((it for it in self.trees if self.is_in(it, name)), None)
+                if tree:
+                    self.take(tree, name)
                 else:
                     self.build(name)

@@ -99,13 +99,15 @@ def test_guarantees_of_every_crate():
 
 
 def test_edits():
-    """docs/gate.md names each edit of the gate, beside its crate, and no other."""
+    """docs/gate.md names each edit of the gate, beside its crate, and no other, and three or more for each promise."""
     section = text_of("docs/gate.md").partition("## Which edits turn which promise\n")[2].partition("\n## ")[0]
     named = {f"{crate}/{edit}" for group, crate in re.findall(r"((?:`\w+`(?:, | and )?)+) \(`(\w+)`\)", section)
              for edit in SPAN.findall(group)}
     there = {f"{path.parent.name}/{path.stem}" for path in (TOP / "edits" / "gate").glob("*/*.edit")}
     assert there
     assert sorted(named) == sorted(there)
+    rows = {cells[0]: len(SPAN.findall(re.sub(r"\(`\w+`\)", "", cells[1]))) for cells in rows_of(section)[1:]}
+    assert {promise: number for promise, number in rows.items() if number < 3} == {}
 
 
 def test_words_of_the_readme():

@@ -15,6 +15,8 @@ from programs import TOP
 
 GATE = sorted(TOP.glob("edits/gate/*/*.edit"))
 EDITS = sorted([*GATE, *(path for path in TOP.glob("edits/*/*.edit") if path.parent.name != "gate")])
+# Crates without a contract of their own: a program of one call, and a crate of one law.
+BARE = {"las", "laz_copied"}
 
 
 def crate_of(edit: Path) -> str:
@@ -57,6 +59,14 @@ def test_names_tell_edits_of_a_crate_apart() -> None:
     assert all(re.fullmatch(r"[a-z][a-z0-9_]*[a-z0-9]", name) for _, name in names)
 
 
+def test_each_crate_of_the_product_has_two_edits_in_the_gate() -> None:
+    crates = {path.name for path in (TOP / "crates").iterdir() if (path / "src").is_dir()}
+    product = {crate for crate in crates if not crate.startswith("tests_")} - BARE
+    number = {crate: sum(crate_of(edit) == crate for edit in GATE) for crate in product}
+    assert {crate: found for crate, found in number.items() if found < 2} == {}
+    assert {crate_of(edit) for edit in GATE} <= product
+
+
 RATTLE = r"""#!/bin/sh
 # says of each function that --only names what $SAID tells
 whole=1
@@ -69,6 +79,7 @@ while [ $# -gt 0 ]; do
     shift
 done
 echo "check$names" >>"$LOG"
+case "$names" in *"${UNNAMED-none}"*) echo "rattle: error: \`one\` has no function \`$UNNAMED\`: help"; exit 2 ;; esac
 [ -z "${WAITS-}" ] || { sleep 60 & wait; }
 number=0
 for name in $names ${whole:+f}; do
@@ -168,6 +179,15 @@ def test_an_edit_that_is_not_refused_fails(tree: Path, said: str, place: str) ->
 def test_an_edit_that_passes_by_itself_is_tried_in_the_whole_crate(tree: Path) -> None:
     assert tried(tree, "proved", "--gate")[0] == 1
     assert log(tree) == ["check f", "check"]
+
+
+def test_an_edit_of_a_function_that_the_prover_does_not_know_is_tried_in_the_whole_crate(tree: Path) -> None:
+    (tree / "crates" / "one" / "src" / "lib.rt").write_text("fn f() { g(1) }\n\nfn h() { g(2) }\n\nfn i() { g(4) }\n")
+    (tree / "edits" / "one" / "six.edit").write_text("file: src/lib.rt\nold: g(4)\nnew: g(5)\n")
+    run = begun(tree, "what the function ensures holds", UNNAMED="i")
+    run.communicate(timeout=60)
+    assert run.returncode == 0
+    assert log(tree) == ["check f h i", "check f h", "check i", "check"]
 
 
 def test_what_another_proof_cites_counts_for_that_one_alone(tree: Path) -> None:
