@@ -1,5 +1,6 @@
 -- Records that are kept, some after others, and that a writer takes and taps see.
-use Rattle.std.specs.Prelude.{◌≡◌, ℕ, ◌+◌, ◌*◌, ◌^◌, ◌≤◌, Bool, true, false, if◌then◌else◌, List, []}
+use Rattle.std.specs.Prelude.{◌≡◌, ℕ, ◌+◌, ◌*◌, ◌^◌, ◌≤◌, Bool, true, false, if◌then◌else◌, List, [], IfOk, OnOk}
+use Rattle.std.specs.Prelude.{Result}
 use Rattle.std.specs.Prelude.{◌++◌, length, map, take, All, Option, Some, None}
 use Rattle.std.specs.List.{concat}
 use Rattle.las_header.specs.declared.refusal.Refusal.{Refusal}
@@ -84,6 +85,24 @@ abbrev pub OfAfter : Steps → Sieving → (read : ℕ) → (P : (looked : List 
     → Type 0
 OfAfter plan sieving read P =
     (looked : List Placed) (before : List (List ℕ)) → IsAfter plan looked before sieving read → P looked before
+
+-- A call takes more records, up to one that it may refuse. If it refuses none, the sieve has come by all of them after.
+abbrev pub ComesBy : {X E : Type 0} → Result X E → (refused : X → Bool) → Steps → (old : Sieving) → (read : ℕ)
+    → (more : List (List ℕ)) → (new : Sieving) → (now_read : ℕ) → Type 0
+ComesBy result refused plan old read more new now_read =
+    OfAfter plan old read (λ looked before. IfOk result (λ x. refused x ≡ false
+    → IsAfter plan looked (before ++ more) new now_read))
+
+-- A sieve has looked at those of some records that pass the filters, and was asked for none.
+abbrev pub HasLooked : Steps → (records : List (List ℕ)) → Sieving → Type 0
+HasLooked plan records sieving = sieve.HasSifted (passing plan records) [] sieving
+
+-- A sieve that has looked at this many records looks at more.
+abbrev pub LooksOn : {X E : Type 0} → Result X E → Steps → (read : ℕ) → (old : Sieving) → (more : List (List ℕ))
+    → (new : Sieving) → Type 0
+LooksOn result plan read old more new =
+    (before : List (List ℕ)) → length before ≡ read → HasLooked plan before old
+    → OnOk result (HasLooked plan (before ++ more) new)
 
 -- What is kept by the sieve after any records that may have passed by it, and after none, is such.
 abbrev pub AfterAny : Steps → Sieving → (read : ℕ) → (Keeping → (before : List (List ℕ)) → Type 0) → Type 0

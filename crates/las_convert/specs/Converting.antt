@@ -20,7 +20,7 @@ use Rattle.las_thin.specs.Sieving.{Settings, Sieving}
 use Rattle.las_thin.specs.Sieving as sieve
 use Rattle.laz_forms.specs.declared.fault.Fault.{Fault}
 use Rattle.laz_forms.specs.declared.fault.Fault.TheVariants.{Refused, Read, Write, Memory}
-use Rattle.laz_file.specs.Copying.{AreOnlyRecordsIn, HoldFirst, LeavesUnfinished}
+use Rattle.laz_file.specs.Copying.{AreOnlyRecordsIn, HoldFirst, LeavesUnfinished, records_read}
 use Rattle.laz_file.specs.Endings.{EndsMaking, Product, output_file}
 use Rattle.laz_forms.specs.Outputs.{Output, finished, records_after, stopped}
 use Rattle.laz_forms.specs.Pieces.{ArePieces, Piece}
@@ -158,10 +158,6 @@ StopsLooking wanted name old now fault = (output : List ℕ) (chunk : Option ℕ
 -- the output of the records of a reader
 abbrev pub output_of : ReaderSeen → (name : List ℕ) → (chunk : Option ℕ) → Output
 output_of reader name chunk = record { name = name; head = plain_of reader.head.bytes; chunk = chunk; counted = true }
-
--- the records in some blocks of a reader, each as its bytes
-abbrev pub records_read : ReaderSeen → (blocks : List (List ℕ)) → List (List ℕ)
-records_read reader blocks = cut_all (record_length_of reader.head.bytes) (concat blocks)
 
 -- All records that a reader has left were converted into an output, it was finished, and the taps saw what is kept.
 pub record FinishesKept (known was now : Option FileMap) (keeping : Keeping) (reader : ReaderSeen) (out : Output)

@@ -1,19 +1,19 @@
 //! Records that go from a reader into a writer: filtered, thinned, changed, and shown to taps.
-ghost use Rattle.std.specs.Prelude.{◌≡◌, ◌≢◌, ◌%◌, ◌*◌, ◌+◌, ◌/◌, ◌^◌, ◌≤◌, ◌<◌, ◌++◌, ℕ, List};
+ghost use Rattle.std.specs.Prelude.{◌≡◌, ◌≢◌, ◌%◌, ◌*◌, ◌+◌, ◌/◌, ◌^◌, ◌≤◌, ◌<◌};
 ghost use Rattle.std.specs.Prelude.{All, IfErr, IfOk, OnErr, OnOk, false, length, map};
 ghost use Rattle.las_header.specs.Plain.{cut_all};
 ghost use Rattle.las_filter.specs.Changes.{HasClass};
 ghost use Rattle.las_filter.specs.Kept.{steps_of};
 ghost use Rattle.las_outside.specs.Files.{WhereKnown};
 ghost use Rattle.las_outside.specs.Frames.{IsCalm, OnlyWrites};
-ghost use Rattle.las_thin.specs.Placed.{Placed};
 ghost use Rattle.laz_file.specs.Copying.{CanTake};
 ghost use Rattle.laz_forms.specs.FileFaults.{HasCause};
 ghost use Rattle.laz_reader.specs.Asking.{ReadsAndWrites, bytes_left};
 ghost use Rattle.laz_reader.specs.Reading.{IsCrewOf, StandsFor};
 ghost use Rattle.laz_writer.specs.Writing.{IsBegun};
 ghost use Rattle.las_convert.specs.Adding.{AfterAny, AfterNone, AfterSome, BeforeAll, Goes, GoesToEnd, HaveCounted};
-ghost use Rattle.las_convert.specs.Adding.{IsAfter, LeavesKeeping, LeavesKept};
+ghost use Rattle.las_convert.specs.Adding.{ComesBy};
+ghost use Rattle.las_convert.specs.Adding.{LeavesKeeping, LeavesKept};
 
 use crate::passage::Passage;
 use las_filter::Plan;
@@ -56,10 +56,8 @@ fn push_kept<R: Threads + Sync, F: Files, G: Gate>(
         AfterAny (steps_of plan.now) passage.old.sieve passage.old.read (λ keeping before. IfOk result (λ taken.
         Goes keeping before size block.now (F.seen files.old) (F.seen files.new) writer.old writer.new taps seen
         taken.kept taken.refused)) }
-    ensures after { (looked : List Placed) (before : List (List ℕ))
-        → IsAfter (steps_of plan.now) looked before passage.old.sieve passage.old.read
-        → IfOk result (λ taken. taken.refused ≡ false → IsAfter (steps_of plan.now) looked
-        (before ++ cut_all size block.now) passage.new.sieve passage.new.read) }
+    ensures after { ComesBy result (λ taken. taken.refused) (steps_of plan.now) passage.old.sieve passage.old.read
+        (cut_all size block.now) passage.new.sieve passage.new.read }
     ensures left { AfterAny (steps_of plan.now) passage.old.sieve passage.old.read (λ keeping before. OnErr result
         (LeavesKept keeping before size block.now (F.seen files.old) (F.seen files.new) writer.old)) }
     ensures settings { passage.new.sieve.settings ≡ passage.old.sieve.settings }

@@ -7,7 +7,7 @@ ghost use Rattle.las_filter.specs.Kept.{steps_of};
 ghost use Rattle.las_thin.specs.Kept.{passing};
 ghost use Rattle.las_thin.specs.Placed.{Placed};
 ghost use Rattle.las_thin.specs.Sieving.{HasSifted};
-ghost use Rattle.las_convert.specs.Adding.{Adds, AddsAlways, AfterAny, AfterSome, HoldsKept, IsAfter, OfAfter, OfSieve};
+ghost use Rattle.las_convert.specs.Adding.{Adds, AddsAlways, AfterAny, AfterSome, HoldsKept, OfSieve, ComesBy};
 ghost use Rattle.las_convert.specs.Adding.{kept_by};
 ghost use Rattle.las_convert.specs.Passing.{passes_after};
 
@@ -178,9 +178,8 @@ pub(crate) fn keep_records(
     ensures within { IfOk result (λ part. part.length ≤ length block.now) }
     ensures kept { AfterAny (steps_of plan.now) sieve.old read (λ keeping before. IfOk result
         (HoldsKept (Adds keeping before (cut_all size block.now)) buffer.new size)) }
-    ensures after { OfAfter (steps_of plan.now) sieve.old read (λ looked before. IfOk result (λ part.
-        part.refused ≡ false → IsAfter (steps_of plan.now) looked (before ++ cut_all size block.now) sieve.new
-        (read + length block.now / size))) }
+    ensures after { ComesBy result (λ part. part.refused) (steps_of plan.now) sieve.old read
+        (cut_all size block.now) sieve.new (read + length block.now / size) }
 {
     if sieve.passes_all() {
         return Ok(keep_plain(plan, size, block, buffer));

@@ -1,5 +1,5 @@
 //! The first of two readings: all records of a range are looked at, to find the lowest or the highest of each cell.
-ghost use Rattle.std.specs.Prelude.{◌≡◌, ◌%◌, ◌+◌, ◌/◌, ◌^◌, ◌≤◌, ◌<◌, ◌++◌, ◌∷◌, [], ℕ, List, length};
+ghost use Rattle.std.specs.Prelude.{◌≡◌, ◌%◌, ◌+◌, ◌/◌, ◌^◌, ◌≤◌, ◌<◌, ◌∷◌, [], ℕ, List, length};
 ghost use Rattle.std.specs.Prelude.{IfErr, IsErrOf, OnOk, Some, false};
 ghost use Rattle.std.specs.List.{concat};
 ghost use Rattle.las_header.specs.Plain.{cut_all};
@@ -9,7 +9,6 @@ ghost use Rattle.las_filter.specs.Kept.{steps_of};
 ghost use Rattle.las_outside.specs.Files.{WhereKnown};
 ghost use Rattle.las_outside.specs.Frames.{IsCalm, Reads};
 ghost use Rattle.las_outside.specs.Limits.{AreWorkers};
-ghost use Rattle.las_thin.specs.Kept.{passing};
 ghost use Rattle.las_thin.specs.Sieving.{PicksFirst};
 ghost use Rattle.las_thin.specs.Sieving as sifting;
 ghost use Rattle.laz_forms.specs.declared.fault.Fault.TheVariants.{Refused, Write};
@@ -19,6 +18,7 @@ ghost use Rattle.laz_forms.specs.Outputs.{records_after};
 ghost use Rattle.laz_reader.specs.Reading.{AgreesWithHead, EndsReading, IsCrewOf, IsFreshReader, OfFile};
 ghost use Rattle.laz_reader.specs.Reading.{StandsFor, records_in};
 ghost use Rattle.las_convert.specs.Converting.{IsReady, StopsLooking, wanted_of};
+ghost use Rattle.las_convert.specs.Adding.{HasLooked, LooksOn};
 
 use las_filter::Plan;
 use las_header::POINT_RECORD;
@@ -36,11 +36,9 @@ fn look_at(plan: &Plan, sieve: &mut Sieve, place: u64, point: &[u8]) -> Result<(
     requires long { POINT_RECORD ≤ length point.now }
     requires pick { ¬ PicksFirst sieve.old.settings.pick }
     requires looked { (before : List (List ℕ)) × (length before ≡ place)
-        × sifting.HasSifted (passing (steps_of plan.now) before) [] sieve.old }
+        × HasLooked (steps_of plan.now) before sieve.old }
     ensures settings { sieve.new.settings ≡ sieve.old.settings }
-    ensures stands { (before : List (List ℕ)) → length before ≡ place
-        → sifting.HasSifted (passing (steps_of plan.now) before) [] sieve.old
-        → OnOk result (sifting.HasSifted (passing (steps_of plan.now) (before ++ point.now ∷ [])) [] sieve.new) }
+    ensures stands { LooksOn result (steps_of plan.now) place sieve.old (point.now ∷ []) sieve.new }
 {
     if plan.keeps(point) {
         return sieve.look(place, point);
@@ -62,12 +60,9 @@ fn look_block(
     requires few { read + length block.now / size < 2 ^ 32 }
     requires pick { ¬ PicksFirst sieve.old.settings.pick }
     requires looked { (before : List (List ℕ)) × (length before ≡ read)
-        × sifting.HasSifted (passing (steps_of plan.now) before) [] sieve.old }
+        × HasLooked (steps_of plan.now) before sieve.old }
     ensures settings { sieve.new.settings ≡ sieve.old.settings }
-    ensures stands { (before : List (List ℕ)) → length before ≡ read
-        → sifting.HasSifted (passing (steps_of plan.now) before) [] sieve.old
-        → OnOk result
-        (sifting.HasSifted (passing (steps_of plan.now) (before ++ cut_all size block.now)) [] sieve.new) }
+    ensures stands { LooksOn result (steps_of plan.now) read sieve.old (cut_all size block.now) sieve.new }
 {
     let mut rest = block;
     let mut place = read;
@@ -97,8 +92,7 @@ fn look_records<R: Threads + Sync, F: Files, G: Gate>(
     requires stands { WhereKnown (F.seen files.old).held reader.old.name (StandsFor reader.old) }
     ensures looked { OnOk result ((blocks : List (List ℕ))
         × HoldFirst (F.seen files.old).held reader.old (length reader.old.left) blocks
-        × sifting.HasSifted (passing (steps_of plan.now) (records_after reader.old.head.bytes (concat blocks))) []
-        sieve.new) }
+        × HasLooked (steps_of plan.now) (records_after reader.old.head.bytes (concat blocks)) sieve.new) }
     ensures bad { (cause : Refusal) → IsErrOf result (Refused cause)
         → (n : ℕ) × (blocks : List (List ℕ)) × HoldFirst (F.seen files.old).held reader.old n blocks
         × EndsAfter (F.seen files.old).held reader.old n (Some cause) }

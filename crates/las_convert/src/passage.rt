@@ -1,11 +1,11 @@
 //! What records pass on their way to an output.
-ghost use Rattle.std.specs.Prelude.{◌≡◌, ◌+◌, ◌/◌, ◌%◌, ◌^◌, ◌≤◌, ◌<◌, ◌++◌, ℕ, length, take, map};
-ghost use Rattle.std.specs.Prelude.{All, IfOk, OnOk, false, true, vec_len};
+ghost use Rattle.std.specs.Prelude.{◌≡◌, ◌+◌, ◌/◌, ◌%◌, ◌^◌, ◌≤◌, ◌<◌, ℕ, length, take, map};
+ghost use Rattle.std.specs.Prelude.{All, IfOk, OnOk, true, vec_len};
 ghost use Rattle.las_header.specs.Plain.{cut_all};
 ghost use Rattle.las_filter.specs.Changes.{HasClass};
 ghost use Rattle.las_filter.specs.Kept.{steps_of};
 ghost use Rattle.las_info.specs.Tallies.{count_at, shown_all};
-ghost use Rattle.las_convert.specs.Adding.{Adds, AfterAny, AfterSome, ChangesNothing, HoldsKept, IsAfter, OfAfter};
+ghost use Rattle.las_convert.specs.Adding.{Adds, AfterAny, AfterSome, ChangesNothing, HoldsKept, ComesBy};
 
 use crate::keeping::{Part, keep_records};
 use las_filter::Plan;
@@ -106,9 +106,8 @@ impl Passage {
         ensures read { OnOk result (self.new.read ≡ self.old.read + length block.now / size) }
         ensures kept { AfterAny (steps_of plan.now) self.old.sieve self.old.read (λ keeping before. IfOk result
             (HoldsKept (Adds keeping before (cut_all size block.now)) self.new.buffer.items size)) }
-        ensures after { OfAfter (steps_of plan.now) self.old.sieve self.old.read (λ looked before.
-            IfOk result (λ part. part.refused ≡ false → IsAfter (steps_of plan.now) looked
-            (before ++ cut_all size block.now) self.new.sieve self.new.read)) }
+        ensures after { ComesBy result (λ part. part.refused) (steps_of plan.now) self.old.sieve self.old.read
+            (cut_all size block.now) self.new.sieve self.new.read }
     {
         self.grow(block.len())?;
         let part = keep_records(

@@ -1,7 +1,8 @@
 -- What a survey has counted of the records that it was shown.
-use Rattle.std.specs.Prelude.{◌≡◌, ℕ, ◌+◌, ◌^◌, ◌<◌, ◌≤◌, List, length, map, All}
+use Rattle.std.specs.Prelude.{◌≡◌, ℕ, ◌+◌, ◌^◌, ◌<◌, ◌≤◌, List, length, map, All, ◌++◌, OnOk, Result}
 use Rattle.las_info.specs.Summaries.{SummarySeen, summary_of}
 use Rattle.las_info.specs.Tallies.{TapSeen, count_at, shown_all}
+use Rattle.las_header.specs.Plain.{cut_all}
 
 -- what contracts see of a survey: what it has counted, and its taps
 pub record SurveySeen : Type 0 where
@@ -23,3 +24,10 @@ abbrev pub HasRoomForMore : SurveySeen → (count : ℕ) → Type 0
 HasRoomForMore survey count = (taps : List TapSeen) × (before : List (List ℕ)) × IsShown taps before survey
     × All (λ tap. (bin : ℕ) → count_at tap.tally bin ≤ 2 ^ 63) taps
     × (length before + count < 2 ^ 32)
+
+-- A survey is shown the records of a block, each of this size: it has then counted these, too, each once.
+abbrev pub ShowsBlock : {E : Type 0} → Result (Unit {0}) E → (old new : SurveySeen) → (size : ℕ) → (block : List ℕ)
+    → Type 0
+ShowsBlock result old new size block =
+    (taps : List TapSeen) (before : List (List ℕ)) → IsShown taps before old
+    → OnOk result (IsShown taps (before ++ cut_all size block) new)

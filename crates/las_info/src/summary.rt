@@ -1,6 +1,6 @@
 //! Counts of records, and the ranges of their raw coordinates.
 ghost use Rattle.std.specs.Prelude.{◌≡◌, ◌+◌, ◌-◌, ◌/◌, ◌%◌, ◌^◌, ◌<◌, ◌≤◌, ◌++◌, ◌∷◌, [], ℕ, List, Some, length};
-ghost use Rattle.las_header.specs.Plain.{cut_records};
+ghost use Rattle.las_header.specs.Plain.{cut_records, cut_all};
 ghost use Rattle.las_points.specs.Tally.{IsWithinPoints, counts_of};
 ghost use Rattle.las_info.specs.Extents.{extents_of};
 ghost use Rattle.las_info.specs.Summaries.{summary_of};
@@ -39,7 +39,7 @@ fn summed(counts: Counts, extents: Extents, size: usize, block: &[u8]) -> (Count
     requires fewer { counts.points + length block.now / size < 2 ^ 32 }
     ensures within { IsWithinPoints result.0 }
     ensures list { (records : List (List ℕ)) → counts ≡ counts_of records → Some extents ≡ extents_of records
-        → summary_of (records ++ cut_records size (length block.now / size) block.now)
+        → summary_of (records ++ cut_all size block.now)
         ≡ record { counts = result.0; extents = Some result.1 } }
 {
     let count = block.len() / size;

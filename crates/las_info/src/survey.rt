@@ -4,8 +4,8 @@ ghost use Rattle.std.specs.Prelude.{length, map, All};
 ghost use Rattle.std.specs.List.{AllZip};
 ghost use Rattle.las_header.specs.declared.limits.TheConstants.{POINT_RECORD};
 ghost use Rattle.las_info.specs.Summaries.{summary_of};
-ghost use Rattle.las_info.specs.Tallies.{HasRoomToCount, IsShownSome, TapSeen, count_at, shown_one, shown_all};
-ghost use Rattle.las_info.specs.Surveys.{HasRoomForMore, IsShown, survey_of};
+ghost use Rattle.las_info.specs.Tallies.{HasRoomToCount, IsShownSome, count_at, shown_one, shown_all};
+ghost use Rattle.las_info.specs.Surveys.{HasRoomForMore, survey_of, ShowsBlock};
 ghost use Rattle.las_header.specs.Plain.{cut_records};
 
 use crate::limits::PIECE;
@@ -116,10 +116,8 @@ impl Survey {
         requires whole { length block.now % size ≡ 0 }
         requires shown { HasRoomForMore (survey_of self.old.summary (map (λ tap. tap_seen tap) self.old.taps.items))
             (length block.now / size) }
-        ensures { (taps : List TapSeen) (before : List (List ℕ))
-            → IsShown taps before (survey_of self.old.summary (map (λ tap. tap_seen tap) self.old.taps.items))
-            → OnOk result (IsShown taps (before ++ cut_records size (length block.now / size) block.now)
-            (survey_of self.new.summary (map (λ tap. tap_seen tap) self.new.taps.items))) }
+        ensures { ShowsBlock result (survey_of self.old.summary (map (λ tap. tap_seen tap) self.old.taps.items))
+            (survey_of self.new.summary (map (λ tap. tap_seen tap) self.new.taps.items)) size block.now }
     {
         self.see_pieces(size, PIECE, block)
     }
@@ -131,10 +129,8 @@ impl Survey {
         requires whole { length block.now % size ≡ 0 }
         requires shown { HasRoomForMore (survey_of self.old.summary (map (λ tap. tap_seen tap) self.old.taps.items))
             (length block.now / size) }
-        ensures { (taps : List TapSeen) (before : List (List ℕ))
-            → IsShown taps before (survey_of self.old.summary (map (λ tap. tap_seen tap) self.old.taps.items))
-            → OnOk result (IsShown taps (before ++ cut_records size (length block.now / size) block.now)
-            (survey_of self.new.summary (map (λ tap. tap_seen tap) self.new.taps.items))) }
+        ensures { ShowsBlock result (survey_of self.old.summary (map (λ tap. tap_seen tap) self.old.taps.items))
+            (survey_of self.new.summary (map (λ tap. tap_seen tap) self.new.taps.items)) size block.now }
     {
         let count = block.len() / size;
         let mut rest = block;
@@ -152,10 +148,8 @@ impl Survey {
         requires whole { length block.now % size ≡ 0 }
         requires shown { HasRoomForMore (survey_of self.old.summary (map (λ tap. tap_seen tap) self.old.taps.items))
             (length block.now / size) }
-        ensures { (taps : List TapSeen) (before : List (List ℕ))
-            → IsShown taps before (survey_of self.old.summary (map (λ tap. tap_seen tap) self.old.taps.items))
-            → OnOk result (IsShown taps (before ++ cut_records size (length block.now / size) block.now)
-            (survey_of self.new.summary (map (λ tap. tap_seen tap) self.new.taps.items))) }
+        ensures { ShowsBlock result (survey_of self.old.summary (map (λ tap. tap_seen tap) self.old.taps.items))
+            (survey_of self.new.summary (map (λ tap. tap_seen tap) self.new.taps.items)) size block.now }
     {
         self.summary.add_all(size, block);
         self.show_taps(size, block)?;

@@ -12,7 +12,7 @@ use std::marker::Model;
 ///
 /// There is a count for each bin from 0 to the greatest that was counted: 2^16 of them for 16-bit bins.
 #[derive(Drop)]
-pub(crate) struct Counted {
+pub struct Counted {
     alloc: Global,
     counts: Vec<u64>,
 }

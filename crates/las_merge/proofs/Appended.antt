@@ -1,5 +1,7 @@
 -- What an output holds after parts of other files were appended to it.
-use Rattle.std.proofs.Common.{◌≡◌, ◌≢◌, inl, inr, ℕ, zero, suc, ◌+◌, ◌-◌, ◌<◌, ◌≤◌, min, Bool, cond, List, [], ◌∷◌, ◌++◌, length, map, get_or, take, drop, Option, Some, None, IsSomeAnd, unwrap_or, refl, sym, ◌∙◌, ap, subst, append_assoc, arith}
+use Rattle.std.proofs.Common.{◌≡◌, ◌≢◌, inl, inr, ℕ, zero, suc, ◌+◌, ◌-◌, ◌<◌, ◌≤◌, min, Bool, cond, List, [], ◌∷◌}
+use Rattle.std.proofs.Common.{◌++◌, length, map, get_or, take, drop, Option, Some, None, IsSomeAnd, unwrap_or, refl}
+use Rattle.std.proofs.Common.{sym, ◌∙◌, ap, subst, append_assoc, arith}
 use Rattle.std.specs.FinMap as map
 use Rattle.std.proofs.lemmas.List.Sums.{sum_by-append, sum_by-cons}
 use Rattle.std.specs.Prelude.{All, sum_by}
@@ -14,10 +16,11 @@ use Rattle.las_outside.specs.Frames.{OnlyWrites}
 use Rattle.las_outside.specs.Outside.{Later, Outside, with_asked, with_bytes, with_write_fault}
 use Rattle.las_outside.proofs.Public.{get-with_value, same_other, after, changed_after, prefix_of}
 use Rattle.laz_forms.specs.declared.fault.Fault.TheVariants as fault
-use Rattle.laz_file.specs.Copying.{with_reads}
+use Rattle.laz_file.specs.Copying.{with_reads, LeavesPrefix}
 use Rattle.las_merge.specs.declared.fault.MergeFault.{MergeFault}
-use Rattle.las_merge.specs.declared.fault.MergeFault.TheVariants.{At, Unequal, TooManyPoints, TooManyChunks, Write, Memory}
-use Rattle.las_merge.specs.Appending.{IsCopyFault, LeavesPrefix, SourceSeen, source_bytes, part_of}
+use Rattle.las_merge.specs.declared.fault.MergeFault.TheVariants.{At, Unequal, TooManyPoints, TooManyChunks, Write}
+use Rattle.las_merge.specs.declared.fault.MergeFault.TheVariants.{Memory}
+use Rattle.las_merge.specs.Appending.{IsCopyFault, SourceSeen, source_bytes, part_of}
 
 -- bytes that were read are the part, if the files are known
 some_bytes : (o : Option (List ℕ)) (P : List ℕ → Type 0) → IsSomeAnd o P → P (unwrap_or o [])

@@ -19,7 +19,7 @@ use Rattle.laz_copied.specs.Copied.{Chunk, all_of, copied_file, points_of_files}
 use Rattle.las_merge.specs.declared.fault.MergeFault.{MergeFault}
 use Rattle.las_merge.specs.declared.fault.MergeFault.TheVariants.{At, Unequal, TooManyPoints, TooManyChunks, Write}
 use Rattle.las_merge.specs.declared.fault.MergeFault.TheVariants.{Memory}
-use Rattle.las_merge.specs.Appending.{IsCopyFault, LeavesPrefix, PartLiesIn, SourceSeen}
+use Rattle.las_merge.specs.Appending.{IsCopyFault, PartLiesIn, SourceSeen}
 use Rattle.las_merge.specs.Asking.{asked_of_all, asked_to_compare, asked_with_chunks}
 use Rattle.las_merge.specs.Listing.{IsListed, IsPackedInput, ListedInput, ListsChunks, all_pieces, chunks_source}
 use Rattle.las_merge.specs.Opening.{AreOpen, InputSeen, IsOpen, first_read, input_names, points_read}
@@ -31,6 +31,7 @@ use Rattle.las_merge.proofs.Known.{file_length, first_by, name_length, read_poin
 use Rattle.las_merge.proofs.Listed.{IsRead, asked_all, files_in, have_all, length_all, lie_all, list_packed, packed_all}
 use Rattle.las_merge.proofs.Listed.{parts_of, read_all, text_by}
 use Rattle.las_merge.proofs.Whole.{names_are}
+use Rattle.laz_file.specs.Copying.{LeavesPrefix}
 
 -- ---- faults
 pub copy_is_fault : (P : ℕ → Type 0) (old new : Outside) (f : MergeFault) → IsCopyFault P old new f → IsNoFault f → ⊥

@@ -1,7 +1,7 @@
 -- Bytes that are appended to an output: parts of other files, one after another.
-use Rattle.std.specs.Prelude.{◌≡◌, ◌⊎◌, ℕ, ◌+◌, ◌≤◌, List, length, take, drop, Option}
+use Rattle.std.specs.Prelude.{ℕ, ◌+◌, ◌≤◌, List, length, take, drop, Option}
 use Rattle.las_outside.specs.Faults.{Rose}
-use Rattle.las_outside.specs.Files.{FileMap, WhereKnown, bytes_of, with_file}
+use Rattle.las_outside.specs.Files.{FileMap, WhereKnown, bytes_of}
 use Rattle.las_outside.specs.Outside.{Outside}
 use Rattle.laz_forms.specs.declared.fault.Fault.TheVariants as fault
 use Rattle.las_merge.specs.declared.fault.MergeFault.{MergeFault}
@@ -36,7 +36,3 @@ IsCopyFault IsInput old new TooManyPoints = ⊥
 IsCopyFault IsInput old new TooManyChunks = ⊥
 IsCopyFault IsInput old new Write = Rose old.write_faults new.write_faults
 IsCopyFault IsInput old new Memory = ⊥
-
--- The file of a name is as before, or holds a prefix of a text.
-abbrev pub LeavesPrefix : (was now : Option FileMap) → (name text : List ℕ) → Type 0
-LeavesPrefix was now name text = (now ≡ was) ⊎ ((n : ℕ) × (now ≡ with_file was name (take n text)))

@@ -14,7 +14,7 @@ use laz_file::{Fault, Reader};
 use std::alloc::Global;
 
 /// Opens the input that has this number and this name.
-pub fn open_input<F: Files>(
+pub(crate) fn open_input<F: Files>(
     alloc: Global,
     files: &mut F,
     number: usize,
@@ -45,7 +45,7 @@ pub fn open_input<F: Files>(
 }
 
 /// The outcome of a call on the input of this number.
-pub fn stopped(number: usize, outcome: Result<(), Fault>) -> Result<(), Stop>
+pub(crate) fn stopped(number: usize, outcome: Result<(), Fault>) -> Result<(), Stop>
     ensures { result ≡ stopped_by number outcome }
 {
     match outcome {
@@ -55,7 +55,7 @@ pub fn stopped(number: usize, outcome: Result<(), Fault>) -> Result<(), Stop>
 }
 
 /// A fault of a call on the input of this number.
-pub fn stop(number: usize, fault: Fault) -> Stop
+pub(crate) fn stop(number: usize, fault: Fault) -> Stop
     ensures { result ≡ stop_by number fault }
 {
     match fault {

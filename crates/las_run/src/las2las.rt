@@ -37,7 +37,7 @@ use std::thread::Threads;
 
 /// Writes those records of the input that are kept, each with the changes of the plan, and puts what the taps of these
 /// names count of them. Places past the end are those of the end.
-pub fn las2las<R: Threads + Sync, F: Files, O: Sink, G: Gate>(
+pub(crate) fn las2las<R: Threads + Sync, F: Files, O: Sink, G: Gate>(
     machine: Machine<'_, R, G>,
     files: &mut F,
     out: &mut O,

@@ -27,7 +27,7 @@ use laz_workers::Machine;
 use std::thread::Threads;
 
 /// Reports what is in an input, with the taps of these names.
-pub fn lasinfo<R: Threads + Sync, F: Files, O: Sink, G: Gate>(
+pub(crate) fn lasinfo<R: Threads + Sync, F: Files, O: Sink, G: Gate>(
     machine: Machine<'_, R, G>,
     files: &mut F,
     out: &mut O,
@@ -106,7 +106,7 @@ fn chunks_of(reader: &Reader) -> Option<(u32, u32)>
 }
 
 /// How a run ends whose report, or whose tallies, were put so.
-pub fn put(outcome: Result<(), ReportFault>) -> Result<(), Stop>
+pub(crate) fn put(outcome: Result<(), ReportFault>) -> Result<(), Stop>
     ensures { result ≡ stopped_report outcome }
 {
     match outcome {

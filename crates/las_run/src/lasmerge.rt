@@ -23,7 +23,7 @@ use std::alloc::Global;
 use std::thread::Threads;
 
 /// Merges all inputs, in their order, under the plain head of the first: by their records, or by copying their chunks.
-pub fn lasmerge<R: Threads + Sync, F: Files, G: Gate>(
+pub(crate) fn lasmerge<R: Threads + Sync, F: Files, G: Gate>(
     machine: Machine<'_, R, G>,
     files: &mut F,
     inputs: &[String],

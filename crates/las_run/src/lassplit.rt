@@ -30,7 +30,7 @@ use std::thread::Threads;
 
 /// Splits the records of an input into parts by a rule. A part is named by the stem, an underscore, its number in seven
 /// digits or as many as it has, and the end.
-pub fn lassplit<R: Threads + Sync, F: Files, G: Gate>(
+pub(crate) fn lassplit<R: Threads + Sync, F: Files, G: Gate>(
     machine: Machine<'_, R, G>,
     files: &mut F,
     input: &str,

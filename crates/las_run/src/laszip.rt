@@ -25,7 +25,7 @@ use laz_workers::Machine;
 use std::thread::Threads;
 
 /// Packs a plain input, in chunks of `chunk` points, and unpacks a packed one.
-pub fn laszip<R: Threads + Sync, F: Files, G: Gate>(
+pub(crate) fn laszip<R: Threads + Sync, F: Files, G: Gate>(
     machine: Machine<'_, R, G>,
     files: &mut F,
     input: &str,

@@ -20,7 +20,7 @@ use laz_workers::Machine;
 use std::thread::Threads;
 
 /// Writes a plain file of random points and its packed form, in chunks of `chunk` points, and puts their sizes.
-pub fn make<R: Threads + Sync, F: Files, O: Sink, G: Gate>(
+pub(crate) fn make<R: Threads + Sync, F: Files, O: Sink, G: Gate>(
     machine: Machine<'_, R, G>,
     files: &mut F,
     out: &mut O,

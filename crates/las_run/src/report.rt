@@ -14,7 +14,7 @@ use las_outside::{Failed, Sink, put_all};
 use las_words::{Command, WordFault};
 
 /// The exit status of a run.
-pub fn status(outcome: &Result<(), Stop>) -> u8
+pub(crate) fn status(outcome: &Result<(), Stop>) -> u8
     ensures status { (inputs : List (List ℕ)) → result ≡ status_of (cause_of inputs outcome.now) }
     ensures known { result ≤ 6 }
 {
@@ -31,7 +31,11 @@ pub fn status(outcome: &Result<(), Stop>) -> u8
 
 /// Puts the line of a run on standard error, in pieces: none if all is done. A fault of the stream changes nothing else.
 /// It takes no memory.
-pub fn report<E: Sink>(err: &mut E, said: &Result<Command, WordFault>, outcome: &Result<(), Stop>)
+pub(crate) fn report<E: Sink>(
+    err: &mut E,
+    said: &Result<Command, WordFault>,
+    outcome: &Result<(), Stop>,
+)
     ensures line { Puts (line_of (cause_of (names_read said.now) outcome.now)) (E.seen err.old) (E.seen err.new) }
 {
     match outcome {

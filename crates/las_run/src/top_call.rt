@@ -135,98 +135,65 @@ fn obey<R: Threads + Sync, F: Files, O: Sink, G: Gate>(
     ensures calm_out { OnOk result ((O.seen out.new).faults ≡ (O.seen out.old).faults) }
     ensures later { Later (F.seen files.old) (F.seen files.new) }
 {
+    let machine = Machine {
+        rt,
+        alloc,
+        gate,
+        workers: command.workers(),
+    };
     match command {
         Command::Laszip {
             input,
             output,
             chunk,
-            workers,
-        } => {
-            let machine = Machine {
-                rt,
-                alloc,
-                gate,
-                workers: *workers,
-            };
-            laszip(machine, files, input, output, *chunk)
-        }
+            ..
+        } => laszip(machine, files, input, output, *chunk),
         Command::Las2las {
             input,
             output,
             plan,
             packing,
-            workers,
             start,
             stop,
             step,
             pick,
             unique,
             tallies,
+            ..
         } => {
+            let conversion = Conversion {
+                packing: *packing,
+                start: *start,
+                stop: *stop,
+                step: *step,
+                pick: *pick,
+                unique: *unique,
+            };
             let request = Request {
                 input,
                 output,
                 plan,
-                conversion: Conversion {
-                    packing: *packing,
-                    start: *start,
-                    stop: *stop,
-                    step: *step,
-                    pick: *pick,
-                    unique: *unique,
-                },
-            };
-            let machine = Machine {
-                rt,
-                alloc,
-                gate,
-                workers: *workers,
+                conversion,
             };
             las2las(machine, files, out, taps, &request, tallies)
         }
-        Command::Lasinfo {
-            input,
-            tallies,
-            workers,
-        } => {
-            let machine = Machine {
-                rt,
-                alloc,
-                gate,
-                workers: *workers,
-            };
-            lasinfo(machine, files, out, taps, input, tallies)
-        }
+        Command::Lasinfo { input, tallies, .. } => lasinfo(
+            machine, files, out, taps, input, tallies,
+        ),
         Command::Lassplit {
             input,
             stem,
             end,
             rule,
-            workers,
-        } => {
-            let machine = Machine {
-                rt,
-                alloc,
-                gate,
-                workers: *workers,
-            };
-            lassplit(machine, files, input, stem, end, rule)
-        }
+            ..
+        } => lassplit(machine, files, input, stem, end, rule),
         Command::Lasmerge {
             inputs,
             output,
             packing,
-            workers,
             copy,
-        } => {
-            let machine = Machine {
-                rt,
-                alloc,
-                gate,
-                workers: *workers,
-            };
-            lasmerge(machine, files, inputs, output, *packing, *copy)
-        }
+            ..
+        } => lasmerge(machine, files, inputs, output, *packing, *copy),
         Command::Make {
             output,
             packed,
@@ -235,19 +202,13 @@ fn obey<R: Threads + Sync, F: Files, O: Sink, G: Gate>(
             format,
             extra,
             chunk,
-            workers,
+            ..
         } => {
             let settings = Settings {
                 points: *points,
                 seed: *seed,
                 format: *format,
                 extra: *extra,
-            };
-            let machine = Machine {
-                rt,
-                alloc,
-                gate,
-                workers: *workers,
             };
             make(machine, files, out, output, packed, settings, *chunk)
         }

@@ -13,7 +13,7 @@ use Rattle.las_filter.specs.declared.rule.Rule.{Rule}
 use Rattle.las_outside.specs.Files.{FileMap}
 use Rattle.las_outside.specs.Outside.{Outside, with_bytes}
 use Rattle.laz_forms.specs.Outputs.{Output, front}
-use Rattle.laz_file.specs.Copying.{EndsAfter}
+use Rattle.laz_file.specs.Copying.{EndsAfter, HoldFirst, records_read}
 use Rattle.laz_reader.specs.Reading.{ReaderSeen}
 use Rattle.laz_writer.specs.Writing.{Stands, WriterSeen}
 use Rattle.las_split.specs.declared.limits.TheConstants.{MAX_PARTS}
@@ -184,3 +184,25 @@ LeavesBlock task was now records block =
 abbrev pub EndsSplitting : (held : Option FileMap) → ReaderSeen → (n : ℕ) → (all : Bool) → Option Refusal → Type 0
 EndsSplitting held reader n true end = EndsAfter held reader n end
 EndsSplitting held reader n false end = end ≡ Some TooManyParts
+
+-- ---- all records of a reader, of whose pieces the first n hold these blocks
+
+-- They are taken into parts, which then have these numbers and writers, up to this end.
+abbrev pub SplitsAll : SplitTask → ReaderSeen → (held now : Option FileMap) → (numbers : List ℕ) → List WriterSeen
+    → Option Refusal → Type 0
+SplitsAll task reader held now numbers writers end =
+    (n : ℕ) × (blocks : List (List ℕ)) × (all : Bool) × HoldFirst held reader n blocks
+    × TakesBlock task held now numbers writers [] (records_read reader blocks) all
+    × EndsSplitting held reader n all end
+
+-- What is left if a call fails.
+abbrev pub LeavesAll : SplitTask → ReaderSeen → (held now : Option FileMap) → Type 0
+LeavesAll task reader held now =
+    (n : ℕ) × (blocks : List (List ℕ)) × HoldFirst held reader n blocks
+    × LeavesBlock task held now [] (records_read reader blocks)
+
+-- There was a record.
+abbrev pub HadRecords : ReaderSeen → (held : Option FileMap) → Type 0
+HadRecords reader held =
+    (n : ℕ) × (blocks : List (List ℕ)) × HoldFirst held reader n blocks
+    × (1 ≤ length (records_read reader blocks))

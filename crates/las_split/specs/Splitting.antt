@@ -53,3 +53,8 @@ pub record OnlySplits (rule : Rule) (file : List ℕ) (records : List (List ℕ)
   pub are : SplitsTo rule file records refusal
   pub only : (others : List (List ℕ)) (other : Option Refusal) → SplitsTo rule file others other
       → (others ≡ records) × (other ≡ refusal)
+
+-- These are the numbers of the parts of a file that is split whole, in the order of their first records.
+abbrev pub AreNumbersOf : Rule → (numbers file : List ℕ) → Type 0
+AreNumbersOf rule numbers file =
+    (records : List (List ℕ)) × OnlySplits rule file records None × (numbers ≡ numbers_of_parts rule records)

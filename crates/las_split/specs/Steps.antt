@@ -1,12 +1,18 @@
 -- What the steps of splitting do to parts.
-use Rattle.std.specs.Prelude.{◌≡◌, ◌⊎◌, ℕ, ◌+◌, ◌<◌, ◌≤◌, List, [], ◌∷◌, ◌++◌, length, take, slice_get}
+use Rattle.std.specs.Prelude.{◌≡◌, ◌⊎◌, ℕ, ◌+◌, ◌<◌, ◌≤◌, List, [], ◌∷◌, ◌++◌, length, take, slice_get, Bool, false}
+use Rattle.std.specs.Prelude.{map, IfOk, OnOk, Result}
 use Rattle.std.specs.Prelude.{slice_index_or, Option, Some, None}
 use Rattle.las_outside.specs.Files.{FileMap}
 use Rattle.las_split.specs.declared.parts.Parts.{Parts}
 use Rattle.las_split.specs.declared.splitter.Splitter.{Splitter}
-use Rattle.las_split.specs.Parts.{number_by}
+use Rattle.las_split.specs.Parts.{number_by, numbers_of_parts}
 use Rattle.las_split.specs.Sorting.{AreGathered, FitAfter, InParts, LeavesPrefixes, PushedSo, SplitTask, task_in}
+use Rattle.las_split.specs.Sorting.{SortsBlock, SortsPoint, TakesBlock, is_among}
 use Rattle.las_split.specs.Splitting.{OpensTooMany}
+use Rattle.las_header.specs.Plain.{cut_all}
+use Rattle.las_split.specs.Files.{with_files}
+use Rattle.las_split.specs.Outputs.{all_finished, outputs_under}
+use Rattle.laz_file.specs.Endings.{OutputFile}
 
 -- The parts of some records are opened, and some of the records are in them.
 abbrev pub AreIn : SplitTask → (was now : Option FileMap) → Parts → (opened written : List (List ℕ)) → Type 0
@@ -109,3 +115,78 @@ abbrev pub LeavesMore : SplitTask → (was now : Option FileMap) → (records bl
 LeavesMore task was now records block more =
     (first : List (List ℕ)) × (rest : List (List ℕ)) × (more ≡ first ++ rest)
     × LeavesPrefixes task was now (records ++ (block ++ first))
+
+-- ---- what the calls promise of each state in which parts stand: the parts as they were and are, and what is held
+
+-- The part of a number is opened if it was not.
+abbrev pub OpensPlace : {E : Type 0} → Result (Option ℕ) E → Splitter → (held now : Option FileMap) → (old new : Parts)
+    → (number : ℕ) → Type 0
+OpensPlace result splitter held now old new number =
+    OfRecord splitter held old number (λ was opened written point.
+    IfOk result (OpensOrRefuses (task_in splitter) was now old new opened written number point))
+
+-- What is gathered for the parts, a text of each, still is, and nothing for a part that is opened.
+abbrev pub KeepsGathered : {X E : Type 0} → Result X E → (old new : Parts) → (number : ℕ) → Type 0
+KeepsGathered result old new number =
+    (text : ℕ → List ℕ) → old.gathered ≡ map text old.numbers
+    → (is_among number old.numbers ≡ false → text number ≡ [])
+    → IfOk result (λ found. new.gathered ≡ map text new.numbers)
+
+-- A record is sorted after others of its block.
+abbrev pub SortsNext : {E : Type 0} → Result Bool E → Splitter → (held now : Option FileMap) → (old new : Parts)
+    → (index : ℕ) → (point : List ℕ) → Type 0
+SortsNext result splitter held now old new index point =
+    OfBlock splitter held old index (λ was records block.
+    IfOk result (SortsPoint (task_in splitter) was now new.numbers new.writers.items new.gathered records block point))
+
+-- The records of a group are sorted after others of their block.
+abbrev pub SortsGroup : {E : Type 0} → Result ℕ E → Splitter → (held now : Option FileMap) → (old new : Parts)
+    → (index : ℕ) → (group : List ℕ) → Type 0
+SortsGroup result splitter held now old new index group =
+    OfBlock splitter held old index (λ was records block.
+    IfOk result (SortsMore (task_in splitter) was now new records block (cut_all splitter.size group)))
+
+-- Those of a block are sorted after all records before it.
+abbrev pub SortsRecords : {E : Type 0} → Result ℕ E → Splitter → (held now : Option FileMap) → (old new : Parts)
+    → (index : ℕ) → (block : List ℕ) → Type 0
+SortsRecords result splitter held now old new index block =
+    OfRecords splitter held old index (λ was records.
+    IfOk result (SortsBlock (task_in splitter) was now new.numbers new.writers.items new.gathered records
+    (cut_all splitter.size block)))
+
+-- They are also pushed into their parts.
+abbrev pub TakesRecords : {E : Type 0} → Result Bool E → Splitter → (held now : Option FileMap) → (old new : Parts)
+    → (index : ℕ) → (block : List ℕ) → Type 0
+TakesRecords result splitter held now old new index block =
+    OfRecords splitter held old index (λ was records.
+    IfOk result (TakesBlock (task_in splitter) was now new.numbers new.writers.items records
+    (cut_all splitter.size block)))
+
+-- There is a state in which the records of a block are gathered, and the first of the parts have theirs; or none has.
+abbrev pub HavePushed : (held : Option FileMap) → Parts → (place : ℕ) → Type 0
+HavePushed held parts place =
+    (task : SplitTask) × (was : Option FileMap) × (records : List (List ℕ)) × (block : List (List ℕ))
+    × PushedSo task was held parts.numbers parts.writers.items place records block
+    × AreGathered task parts.numbers parts.gathered records block × FitAfter task records block
+
+abbrev pub HaveSorted : (held : Option FileMap) → Parts → Type 0
+HaveSorted held parts =
+    (task : SplitTask) × (was : Option FileMap) × (records : List (List ℕ)) × (block : List (List ℕ))
+    × HaveTheirParts task was held parts records block × FitAfter task records block
+
+-- The part at a place has its records, too.
+abbrev pub PushesPlace : {E : Type 0} → Result (Unit {0}) E → (held now : Option FileMap) → (old new : Parts)
+    → (place : ℕ) → Type 0
+PushesPlace result held now old new place =
+    OfPushed held old place (λ task was records block.
+    OnOk result (PushedSo task was now new.numbers new.writers.items (place + 1) records block))
+
+-- the outputs of all parts of some records
+abbrev pub outputs_in : SplitTask → (records : List (List ℕ)) → List OutputFile
+outputs_in task records = outputs_under task.stem task.end task.head task.rule records
+
+-- They are all finished, and have these numbers.
+abbrev pub FinishesParts : SplitTask → (records : List (List ℕ)) → (was now : Option FileMap) → (numbers : List ℕ)
+    → Type 0
+FinishesParts task records was now numbers =
+    (numbers ≡ numbers_of_parts task.rule records) × (now ≡ with_files was (all_finished (outputs_in task records)))

@@ -1,22 +1,19 @@
 //! Records that go from a reader into the parts.
-ghost use Rattle.std.specs.Prelude.{◌≡◌, ◌≢◌, ◌%◌, ◌+◌, ◌≤◌, ◌<◌, ◌^◌, ℕ, Bool, List, [], length};
+ghost use Rattle.std.specs.Prelude.{◌≡◌, ◌≢◌, ◌%◌, ◌+◌, ◌≤◌, ◌<◌, ◌^◌, ℕ, length};
 ghost use Rattle.std.specs.Prelude.{IfErr, IfOk, false, OnErr, OnOk, string_bytes, true, unwrap_or};
-ghost use Rattle.std.specs.List.{concat};
 ghost use Rattle.las_header.specs.Plain.{cut_all};
-ghost use Rattle.las_header.specs.Fields.{is_packed, points_of, record_length_of};
+ghost use Rattle.las_header.specs.Fields.{points_of};
 ghost use Rattle.las_header.specs.Heads.{IsHead};
-ghost use Rattle.las_header.specs.Vlrs.{laszip_vlrs_of};
 ghost use Rattle.las_filter.specs.Parts.{IsRule, part_name};
 ghost use Rattle.las_outside.specs.Files.{WhereKnown};
 ghost use Rattle.las_outside.specs.Frames.{IsCalm, OnlyWrites};
 ghost use Rattle.laz_forms.specs.declared.fault.Fault.TheVariants.{Write};
 ghost use Rattle.laz_reader.specs.Asking.{ReadsAndWrites, bytes_left};
-ghost use Rattle.laz_file.specs.Copying.{HoldFirst};
 ghost use Rattle.laz_forms.specs.FileFaults.{HasCause};
 ghost use Rattle.laz_reader.specs.Reading.{IsCrewOf, StandsFor, records_in};
-ghost use Rattle.las_split.specs.Sorting.{EndsSplitting, PartsHaveRoom, IsPlainFor, LeavesBlock, TakesBlock};
+ghost use Rattle.las_split.specs.Sorting.{PartsHaveRoom, IsPlainFor, HadRecords, LeavesAll, SplitsAll, LeavesBlock};
 ghost use Rattle.las_split.specs.Sorting.{task_in, split_task};
-ghost use Rattle.las_split.specs.Steps.{HaveSplit, OfRecords};
+ghost use Rattle.las_split.specs.Steps.{HaveSplit, OfRecords, TakesRecords};
 
 use crate::part_names::PartNames;
 use crate::parts::Parts;
@@ -41,20 +38,17 @@ fn split_block<R: Threads + Sync, F: Files, G: Gate>(
     block: &[u8],
     parts: &mut Parts,
 ) -> Result<bool, Fault>
-    requires plain { is_packed splitter.now.head.now.bytes ≡ false }
-    requires none { laszip_vlrs_of splitter.now.head.now.bytes ≡ [] }
     requires rule { IsRule splitter.now.rule.now }
     requires room { PartsHaveRoom (task_in splitter.now) splitter.now.size index (length block.now) }
     requires whole { length block.now % splitter.now.size ≡ 0 }
     requires parts { HaveSplit splitter.now (F.seen files.old).held parts.old index }
-    ensures takes { OfRecords splitter.now (F.seen files.old).held parts.old index (λ was records.
-        IfOk result (TakesBlock (task_in splitter.now) was (F.seen files.new).held parts.new.numbers
-        parts.new.writers.items records (cut_all splitter.now.size block.now))) }
+    ensures takes { TakesRecords result splitter.now (F.seen files.old).held (F.seen files.new).held
+        parts.old parts.new index block.now }
     ensures left { OfRecords splitter.now (F.seen files.old).held parts.old index (λ was records.
         OnErr result (LeavesBlock (task_in splitter.now) was (F.seen files.new).held records
         (cut_all splitter.now.size block.now))) }
-    ensures some { OfRecords splitter.now (F.seen files.old).held parts.old index (λ was records.
-        IfErr result (λ fault. fault ≡ Write → 1 ≤ length records + length (cut_all splitter.now.size block.now))) }
+    ensures some { OfRecords splitter.now (F.seen files.old).held parts.old index (λ was records. IfErr result (λ fault.
+        fault ≡ Write → 1 ≤ length records + length (cut_all splitter.now.size block.now))) }
     ensures cause { IfErr result (HasCause (F.seen files.old) (F.seen files.new)) }
     ensures calm { OnOk result (IsCalm (F.seen files.old) (F.seen files.new)) }
     ensures writes { OnlyWrites (F.seen files.old) (F.seen files.new) }
@@ -97,19 +91,12 @@ pub(crate) fn split_records<R: Threads + Sync, F: Files, G: Gate>(
     requires rule { IsRule rule.now }
     requires head { IsHead reader.old.head.bytes }
     requires all { records_in reader.old.left ≡ points_of reader.old.head.bytes }
-    ensures takes { IfOk result (λ answer. (n : ℕ) × (blocks : List (List ℕ)) × (all : Bool)
-        × HoldFirst (F.seen files.old).held reader.old n blocks
-        × TakesBlock (split_task names.now (unwrap_or plain.now reader.old.head) rule.now) (F.seen files.old).held
-        (F.seen files.new).held answer.0.numbers answer.0.writers.items []
-        (cut_all (record_length_of reader.old.head.bytes) (concat blocks)) all
-        × EndsSplitting (F.seen files.old).held reader.old n all answer.1) }
-    ensures left { OnErr result ((n : ℕ) × (blocks : List (List ℕ))
-        × HoldFirst (F.seen files.old).held reader.old n blocks
-        × LeavesBlock (split_task names.now (unwrap_or plain.now reader.old.head) rule.now) (F.seen files.old).held
-        (F.seen files.new).held [] (cut_all (record_length_of reader.old.head.bytes) (concat blocks))) }
-    ensures some { IfErr result (λ fault. fault ≡ Write → (n : ℕ) × (blocks : List (List ℕ))
-        × HoldFirst (F.seen files.old).held reader.old n blocks
-        × (1 ≤ length (cut_all (record_length_of reader.old.head.bytes) (concat blocks)))) }
+    ensures takes { IfOk result (λ answer. SplitsAll (split_task names.now
+        (unwrap_or plain.now reader.old.head) rule.now)
+        reader.old (F.seen files.old).held (F.seen files.new).held answer.0.numbers answer.0.writers.items answer.1) }
+    ensures left { OnErr result (LeavesAll (split_task names.now (unwrap_or plain.now reader.old.head) rule.now)
+        reader.old (F.seen files.old).held (F.seen files.new).held) }
+    ensures some { IfErr result (λ fault. fault ≡ Write → HadRecords reader.old (F.seen files.old).held) }
     ensures cause { IfErr result (HasCause (F.seen files.old) (F.seen files.new)) }
     ensures calm { OnOk result (IsCalm (F.seen files.old) (F.seen files.new)) }
     ensures frame { ReadsAndWrites (bytes_left reader.old) (F.seen files.old) (F.seen files.new) }
@@ -130,13 +117,13 @@ pub(crate) fn split_records<R: Threads + Sync, F: Files, G: Gate>(
             return Ok((parts, None));
         };
         let head = plain_of(plain, reader);
+        let block = reader.block(crew, number);
         let splitter = Splitter {
             names,
             head,
             rule,
             size,
         };
-        let block = reader.block(crew, number);
         if !split_block(machine, files, &splitter, index, block, &mut parts)? {
             return Ok((parts, Some(Refusal::TooManyParts)));
         }

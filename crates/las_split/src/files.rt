@@ -1,5 +1,5 @@
 //! Whole files into parts.
-ghost use Rattle.std.specs.Prelude.{◌≡◌, ◌≢◌, ◌⊎◌, ◌^◌, ◌≤◌, ◌<◌, ℕ, List, None};
+ghost use Rattle.std.specs.Prelude.{◌≡◌, ◌≢◌, ◌⊎◌, ◌^◌, ◌≤◌, ◌<◌, ℕ, None};
 ghost use Rattle.std.specs.Prelude.{IfErr, IfOk, IsErrOf, OnErr, OnOk, length, string_bytes, unwrap_or};
 ghost use Rattle.las_header.specs.declared.refusal.Refusal.{Refusal};
 ghost use Rattle.las_header.specs.declared.refusal.Refusal.TheVariants.{BadChunk, TooManyParts};
@@ -14,11 +14,10 @@ ghost use Rattle.laz_forms.specs.FileFaults.{HasCause};
 ghost use Rattle.laz_reader.specs.Reading.{AgreesWithHead, IsNewReader, StandsFor};
 ghost use Rattle.laz_file.specs.Endings.{EndsMaking};
 ghost use Rattle.las_split.specs.Files.{with_files};
-ghost use Rattle.las_split.specs.Outputs.{LeavesParts, Splits, all_finished, all_stopped, outputs_under};
-ghost use Rattle.las_split.specs.Parts.{numbers_of_parts};
+ghost use Rattle.las_split.specs.Outputs.{LeavesParts, Splits, all_stopped};
 ghost use Rattle.las_split.specs.Sorting.{IsPlainFor, LeavesPrefixes};
-ghost use Rattle.las_split.specs.Steps.{HaveParts, OfParts};
-ghost use Rattle.las_split.specs.Splitting.{OnlySplits};
+ghost use Rattle.las_split.specs.Steps.{HaveParts, OfParts, FinishesParts, outputs_in};
+ghost use Rattle.las_split.specs.Splitting.{AreNumbersOf};
 
 use crate::copying::split_records;
 use crate::part_names::PartNames;
@@ -54,12 +53,9 @@ fn finish_all<R: Threads + Sync, F: Files, G: Gate>(
 ) -> Result<Vec<u32>, Fault>
     requires parts { HaveParts (F.seen files.old).held parts }
     ensures finished { OfParts (F.seen files.old).held parts (λ task was records.
-        IfOk result (λ numbers. (numbers.items ≡ numbers_of_parts task.rule records)
-        × ((F.seen files.new).held ≡ with_files was (all_finished
-        (outputs_under task.stem task.end task.head task.rule records))))) }
+        IfOk result (λ numbers. FinishesParts task records was (F.seen files.new).held numbers.items)) }
     ensures left { OfParts (F.seen files.old).held parts (λ task was records.
-        OnErr result (LeavesParts (outputs_under task.stem task.end task.head task.rule records) was
-        (F.seen files.new).held)) }
+        OnErr result (LeavesParts (outputs_in task records) was (F.seen files.new).held)) }
     ensures some { OfParts (F.seen files.old).held parts (λ task was records.
         IfErr result (λ fault. fault ≡ Write → 1 ≤ length records)) }
     ensures cause { IfErr result (HasCause (F.seen files.old) (F.seen files.new)) }
@@ -87,8 +83,7 @@ fn stop_all<R: Threads + Sync, F: Files, G: Gate>(
 ) -> Result<(), Fault>
     requires parts { HaveParts (F.seen files.old).held parts }
     ensures stopped { OfParts (F.seen files.old).held parts (λ task was records.
-        OnOk result ((F.seen files.new).held ≡ with_files was (all_stopped
-        (outputs_under task.stem task.end task.head task.rule records)))) }
+        OnOk result ((F.seen files.new).held ≡ with_files was (all_stopped (outputs_in task records)))) }
     ensures left { OfParts (F.seen files.old).held parts (λ task was records.
         OnErr result (LeavesPrefixes task was (F.seen files.new).held records)) }
     ensures some { OfParts (F.seen files.old).held parts (λ task was records.
@@ -140,9 +135,8 @@ pub fn split<R: Threads + Sync, F: Files, G: Gate>(
 
     ensures ends { EndsMaking (Splits (string_bytes output.now.stem) (string_bytes output.now.end) rule.now)
         reader.name (F.seen files.old) (F.seen files.new) result }
-    ensures numbers { IfOk result (λ numbers. WhereKnown (F.seen files.old).held reader.name (λ file.
-        (records : List (List ℕ)) × OnlySplits rule.now file records None
-        × (numbers.items ≡ numbers_of_parts rule.now records))) }
+    ensures numbers { IfOk result (λ numbers. WhereKnown (F.seen files.old).held reader.name
+        (AreNumbersOf rule.now numbers.items)) }
     ensures bad { (cause : Refusal) → IsErrOf result (Refused cause)
         → ((i : ℕ) × (cause ≡ BadChunk i)) ⊎ (cause ≡ TooManyParts) }
     // No call has failed if the file is refused.

@@ -1,13 +1,10 @@
 //! The parts of a file while their records are written.
-ghost use Rattle.std.specs.Prelude.{◌≡◌, ◌⊎◌, ◌++◌, ◌∷◌, [], ℕ, false, take, IfErr, OnErr, OnOk};
-ghost use Rattle.las_header.specs.Fields.{is_packed, points_of};
-ghost use Rattle.las_header.specs.Vlrs.{laszip_vlrs_of};
-ghost use Rattle.las_outside.specs.Files.{with_file};
+ghost use Rattle.std.specs.Prelude.{◌≡◌, ◌++◌, ◌∷◌, [], IfErr, OnErr, OnOk};
 ghost use Rattle.las_outside.specs.Frames.{IsCalm, OnlyWrites};
 ghost use Rattle.laz_forms.specs.FileFaults.{HasCause};
+ghost use Rattle.las_split.specs.Splitters.{OpensPart, part_output};
+ghost use Rattle.laz_file.specs.Copying.{LeavesPrefix};
 ghost use Rattle.laz_forms.specs.Outputs.{front};
-ghost use Rattle.laz_writer.specs.Writing.{Stands, WriterSeen};
-ghost use Rattle.las_split.specs.Splitters.{part_output};
 
 use crate::gathering::Gathered;
 use crate::numbers::Numbers;
@@ -46,17 +43,12 @@ impl Parts {
         splitter: &Splitter,
         number: u32,
     ) -> Result<(), Fault>
-        requires plain { is_packed splitter.now.head.now.bytes ≡ false }
-        requires none { laszip_vlrs_of splitter.now.head.now.bytes ≡ [] }
         ensures numbers { OnOk result (self.new.numbers ≡ self.old.numbers ++ number ∷ []) }
         ensures gathered { self.new.gathered ≡ self.old.gathered }
-        ensures writers { OnOk result ((writer : WriterSeen)
-            × (self.new.writers.items ≡ self.old.writers.items ++ writer ∷ [])
-            × Stands (F.seen files.old) (F.seen files.new) writer (part_output splitter.now number) []
-            × (writer.failed ≡ false) × (writer.most ≡ points_of splitter.now.head.now.bytes)) }
-        ensures left { OnErr result (((F.seen files.new).held ≡ (F.seen files.old).held)
-            ⊎ ((n : ℕ) × ((F.seen files.new).held ≡ with_file (F.seen files.old).held
-            (part_output splitter.now number).name (take n (front (part_output splitter.now number)))))) }
+        ensures writers { OnOk result (OpensPart splitter.now number (F.seen files.old) (F.seen files.new)
+            self.old.writers.items self.new.writers.items) }
+        ensures left { OnErr result (LeavesPrefix (F.seen files.old).held (F.seen files.new).held
+            (part_output splitter.now number).name (front (part_output splitter.now number))) }
         ensures cause { IfErr result (HasCause (F.seen files.old) (F.seen files.new)) }
         ensures calm { OnOk result (IsCalm (F.seen files.old) (F.seen files.new)) }
         ensures writes { OnlyWrites (F.seen files.old) (F.seen files.new) }

@@ -1,11 +1,10 @@
 //! The records of a block on their way into the parts.
-ghost use Rattle.std.specs.Prelude.{◌≡◌, ◌+◌, ◌++◌, ◌<◌, ◌≤◌, ℕ, List, length, IfErr, OnErr, OnOk, Option};
-ghost use Rattle.las_outside.specs.Files.{FileMap};
+ghost use Rattle.std.specs.Prelude.{◌≡◌, ◌+◌, ◌++◌, ◌<◌, ◌≤◌, length, IfErr, OnErr, OnOk};
 ghost use Rattle.las_outside.specs.Frames.{IsCalm, OnlyWrites};
 ghost use Rattle.laz_forms.specs.declared.fault.Fault.TheVariants.{Write};
 ghost use Rattle.laz_forms.specs.FileFaults.{HasCause};
-ghost use Rattle.las_split.specs.Sorting.{AreGathered, FitAfter, LeavesPrefixes, PushedSo, SplitTask};
-ghost use Rattle.las_split.specs.Steps.{AreIn, HaveTheirParts, OfPushed, OfSorted};
+ghost use Rattle.las_split.specs.Sorting.{LeavesPrefixes};
+ghost use Rattle.las_split.specs.Steps.{AreIn, OfPushed, OfSorted, HavePushed, HaveSorted, PushesPlace};
 
 use crate::parts::Parts;
 use las_outside::{Files, Gate};
@@ -21,12 +20,9 @@ fn push_place<R: Threads + Sync, F: Files, G: Gate>(
     parts: &mut Parts,
 ) -> Result<(), Fault>
     requires place { place < length parts.old.numbers }
-    requires parts { (task : SplitTask) × (was : Option FileMap) × (records : List (List ℕ)) × (block : List (List ℕ))
-        × PushedSo task was (F.seen files.old).held parts.old.numbers parts.old.writers.items place records block
-        × AreGathered task parts.old.numbers parts.old.gathered records block × FitAfter task records block }
-    ensures pushed { OfPushed (F.seen files.old).held parts.old place (λ task was records block.
-        OnOk result (PushedSo task was (F.seen files.new).held parts.new.numbers parts.new.writers.items (place + 1)
-        records block)) }
+    requires parts { HavePushed (F.seen files.old).held parts.old place }
+    ensures pushed { PushesPlace result (F.seen files.old).held (F.seen files.new).held
+        parts.old parts.new place }
     ensures left { OfPushed (F.seen files.old).held parts.old place (λ task was records block.
         OnErr result (LeavesPrefixes task was (F.seen files.new).held (records ++ block))) }
     ensures numbers { parts.new.numbers ≡ parts.old.numbers }
@@ -50,8 +46,7 @@ pub(crate) fn push_parts<R: Threads + Sync, F: Files, G: Gate>(
     files: &mut F,
     parts: &mut Parts,
 ) -> Result<(), Fault>
-    requires parts { (task : SplitTask) × (was : Option FileMap) × (records : List (List ℕ)) × (block : List (List ℕ))
-        × HaveTheirParts task was (F.seen files.old).held parts.old records block × FitAfter task records block }
+    requires parts { HaveSorted (F.seen files.old).held parts.old }
     ensures pushed { OfSorted (F.seen files.old).held parts.old (λ task was records block.
         OnOk result (AreIn task was (F.seen files.new).held parts.new (records ++ block) (records ++ block))) }
     ensures left { OfSorted (F.seen files.old).held parts.old (λ task was records block.

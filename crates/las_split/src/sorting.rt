@@ -1,16 +1,15 @@
 //! The records of a block by the parts that they belong to.
-ghost use Rattle.std.specs.Prelude.{◌≡◌, ◌+◌, ◌++◌, ◌%◌, ◌<◌, ◌≤◌, ◌^◌, ℕ, List, [], Option};
-ghost use Rattle.std.specs.Prelude.{false, length, IfErr, IfOk, OnErr, OnOk, map};
+ghost use Rattle.std.specs.Prelude.{◌≡◌, ◌+◌, ◌%◌, ◌<◌, ◌≤◌, ◌^◌, ℕ, List, [], Option, ◌++◌, OnErr};
+ghost use Rattle.std.specs.Prelude.{false, length, IfErr, IfOk, OnOk, map};
 ghost use Rattle.las_header.specs.Plain.{cut_all};
-ghost use Rattle.las_header.specs.Fields.{is_packed};
-ghost use Rattle.las_header.specs.Vlrs.{laszip_vlrs_of};
-ghost use Rattle.las_filter.specs.Parts.{IsRule};
 ghost use Rattle.las_outside.specs.Frames.{IsCalm, OnlyWrites};
 ghost use Rattle.laz_forms.specs.declared.fault.Fault.TheVariants.{Write};
 ghost use Rattle.laz_forms.specs.FileFaults.{HasCause};
-ghost use Rattle.las_split.specs.Sorting.{PartsHaveRoom, LeavesBlock, SortsBlock, SortsPoint, is_among, task_in};
-ghost use Rattle.las_split.specs.Steps.{HaveBlock, HaveSplit, LeavesMore, LeavesRecord, OfBlock, OfRecord, OfRecords};
-ghost use Rattle.las_split.specs.Steps.{OpensOrRefuses, SortsMore};
+ghost use Rattle.las_split.specs.Sorting.{PartsHaveRoom, is_among, task_in, LeavesBlock};
+ghost use Rattle.las_split.specs.Steps.{HaveBlock, HaveSplit, KeepsGathered, LeavesMore, LeavesRecord, OfBlock};
+ghost use Rattle.las_split.specs.Steps.{OfRecord, OfRecords};
+ghost use Rattle.las_split.specs.Steps.{OpensPlace, SortsGroup, SortsNext, SortsRecords};
+ghost use Rattle.las_filter.specs.Parts.{IsRule};
 
 use crate::limits::{GROUP, MAX_PARTS};
 use crate::numbering::part_of;
@@ -32,17 +31,14 @@ fn open_place<F: Files>(
     number: u32,
     parts: &mut Parts,
 ) -> Result<Option<usize>, Fault>
-    requires plain { is_packed splitter.now.head.now.bytes ≡ false }
-    requires none { laszip_vlrs_of splitter.now.head.now.bytes ≡ [] }
     requires other { is_among number parts.old.numbers ≡ false }
 
     // The part was opened after others, at the first record that has its number.
-    ensures opened { OfRecord splitter.now (F.seen files.old).held parts.old number (λ was opened written point.
-        IfOk result (OpensOrRefuses (task_in splitter.now) was (F.seen files.new).held parts.old parts.new opened
-        written number point)) }
+    ensures opened { OpensPlace result splitter.now (F.seen files.old).held (F.seen files.new).held
+        parts.old parts.new number }
     ensures gathered { (text : ℕ → List ℕ) → parts.old.gathered ≡ map text parts.old.numbers → text number ≡ []
         → IfOk result (λ found. parts.new.gathered ≡ map text parts.new.numbers) }
-    ensures left { OfRecord splitter.now (F.seen files.old).held parts.old number (λ was opened written point.
+    ensures left { OfRecord splitter.now (F.seen files.old).held parts.old number (λ was opened _ point.
         OnErr result (LeavesRecord (task_in splitter.now) was (F.seen files.new).held opened point)) }
     ensures cause { IfErr result (HasCause (F.seen files.old) (F.seen files.new)) }
     ensures calm { OnOk result (IsCalm (F.seen files.old) (F.seen files.new)) }
@@ -67,15 +63,10 @@ fn place_of<F: Files>(
     number: u32,
     parts: &mut Parts,
 ) -> Result<Option<usize>, Fault>
-    requires plain { is_packed splitter.now.head.now.bytes ≡ false }
-    requires none { laszip_vlrs_of splitter.now.head.now.bytes ≡ [] }
-    ensures opened { OfRecord splitter.now (F.seen files.old).held parts.old number (λ was opened written point.
-        IfOk result (OpensOrRefuses (task_in splitter.now) was (F.seen files.new).held parts.old parts.new opened
-        written number point)) }
-    ensures gathered { (text : ℕ → List ℕ) → parts.old.gathered ≡ map text parts.old.numbers
-        → (is_among number parts.old.numbers ≡ false → text number ≡ [])
-        → IfOk result (λ found. parts.new.gathered ≡ map text parts.new.numbers) }
-    ensures left { OfRecord splitter.now (F.seen files.old).held parts.old number (λ was opened written point.
+    ensures opened { OpensPlace result splitter.now (F.seen files.old).held (F.seen files.new).held
+        parts.old parts.new number }
+    ensures gathered { KeepsGathered result parts.old parts.new number }
+    ensures left { OfRecord splitter.now (F.seen files.old).held parts.old number (λ was opened _ point.
         OnErr result (LeavesRecord (task_in splitter.now) was (F.seen files.new).held opened point)) }
     ensures cause { IfErr result (HasCause (F.seen files.old) (F.seen files.new)) }
     ensures calm { OnOk result (IsCalm (F.seen files.old) (F.seen files.new)) }
@@ -98,15 +89,12 @@ fn sort_point<F: Files>(
     point: &[u8],
     parts: &mut Parts,
 ) -> Result<bool, Fault>
-    requires plain { is_packed splitter.now.head.now.bytes ≡ false }
-    requires none { laszip_vlrs_of splitter.now.head.now.bytes ≡ [] }
     requires rule { IsRule splitter.now.rule.now }
     requires index { index < 2 ^ 32 }
     requires long { POINT_RECORD ≤ length point.now }
     requires parts { HaveBlock splitter.now (F.seen files.old).held parts.old index }
-    ensures sorts { OfBlock splitter.now (F.seen files.old).held parts.old index (λ was records block.
-        IfOk result (SortsPoint (task_in splitter.now) was (F.seen files.new).held parts.new.numbers
-        parts.new.writers.items parts.new.gathered records block point.now)) }
+    ensures sorts { SortsNext result splitter.now (F.seen files.old).held (F.seen files.new).held
+        parts.old parts.new index point.now }
     ensures left { OfBlock splitter.now (F.seen files.old).held parts.old index (λ was records block.
         OnErr result (LeavesRecord (task_in splitter.now) was (F.seen files.new).held (records ++ block) point.now)) }
     ensures cause { IfErr result (HasCause (F.seen files.old) (F.seen files.new)) }
@@ -134,15 +122,12 @@ fn sort_each<F: Files>(
     group: &[u8],
     parts: &mut Parts,
 ) -> Result<usize, Fault>
-    requires plain { is_packed splitter.now.head.now.bytes ≡ false }
-    requires none { laszip_vlrs_of splitter.now.head.now.bytes ≡ [] }
     requires rule { IsRule splitter.now.rule.now }
     requires room { PartsHaveRoom (task_in splitter.now) splitter.now.size index (length group.now) }
     requires whole { length group.now % splitter.now.size ≡ 0 }
     requires parts { HaveBlock splitter.now (F.seen files.old).held parts.old index }
-    ensures sorts { OfBlock splitter.now (F.seen files.old).held parts.old index (λ was records block.
-        IfOk result (SortsMore (task_in splitter.now) was (F.seen files.new).held parts.new records block
-        (cut_all splitter.now.size group.now))) }
+    ensures sorts { SortsGroup result splitter.now (F.seen files.old).held (F.seen files.new).held
+        parts.old parts.new index group.now }
     ensures left { OfBlock splitter.now (F.seen files.old).held parts.old index (λ was records block.
         OnErr result (LeavesMore (task_in splitter.now) was (F.seen files.new).held records block
         (cut_all splitter.now.size group.now))) }
@@ -174,16 +159,13 @@ fn sort_group<F: Files>(
     group: &[u8],
     parts: &mut Parts,
 ) -> Result<usize, Fault>
-    requires plain { is_packed splitter.now.head.now.bytes ≡ false }
-    requires none { laszip_vlrs_of splitter.now.head.now.bytes ≡ [] }
     requires rule { IsRule splitter.now.rule.now }
     requires room { PartsHaveRoom (task_in splitter.now) splitter.now.size index (length group.now) }
     requires whole { length group.now % splitter.now.size ≡ 0 }
     requires one { splitter.now.size ≤ length group.now }
     requires parts { HaveBlock splitter.now (F.seen files.old).held parts.old index }
-    ensures sorts { OfBlock splitter.now (F.seen files.old).held parts.old index (λ was records block.
-        IfOk result (SortsMore (task_in splitter.now) was (F.seen files.new).held parts.new records block
-        (cut_all splitter.now.size group.now))) }
+    ensures sorts { SortsGroup result splitter.now (F.seen files.old).held (F.seen files.new).held
+        parts.old parts.new index group.now }
     ensures left { OfBlock splitter.now (F.seen files.old).held parts.old index (λ was records block.
         OnErr result (LeavesMore (task_in splitter.now) was (F.seen files.new).held records block
         (cut_all splitter.now.size group.now))) }
@@ -213,15 +195,12 @@ pub(crate) fn sort_block<F: Files>(
     block: &[u8],
     parts: &mut Parts,
 ) -> Result<usize, Fault>
-    requires plain { is_packed splitter.now.head.now.bytes ≡ false }
-    requires none { laszip_vlrs_of splitter.now.head.now.bytes ≡ [] }
     requires rule { IsRule splitter.now.rule.now }
     requires room { PartsHaveRoom (task_in splitter.now) splitter.now.size index (length block.now) }
     requires whole { length block.now % splitter.now.size ≡ 0 }
     requires parts { HaveSplit splitter.now (F.seen files.old).held parts.old index }
-    ensures sorts { OfRecords splitter.now (F.seen files.old).held parts.old index (λ was records.
-        IfOk result (SortsBlock (task_in splitter.now) was (F.seen files.new).held parts.new.numbers
-        parts.new.writers.items parts.new.gathered records (cut_all splitter.now.size block.now))) }
+    ensures sorts { SortsRecords result splitter.now (F.seen files.old).held (F.seen files.new).held
+        parts.old parts.new index block.now }
     ensures left { OfRecords splitter.now (F.seen files.old).held parts.old index (λ was records.
         OnErr result (LeavesBlock (task_in splitter.now) was (F.seen files.new).held records
         (cut_all splitter.now.size block.now))) }

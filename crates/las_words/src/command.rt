@@ -112,6 +112,24 @@ pub enum Command {
     },
 }
 
+impl Command {
+    ghost use Rattle.las_words.specs.Asked.{workers_by};
+
+    /// The number of workers, 1 to 8.
+    pub fn workers(&self) -> u32
+        ensures { result ≡ workers_by self.now }
+    {
+        match self {
+            Command::Laszip { workers, .. }
+            | Command::Las2las { workers, .. }
+            | Command::Lasinfo { workers, .. }
+            | Command::Lassplit { workers, .. }
+            | Command::Lasmerge { workers, .. }
+            | Command::Make { workers, .. } => *workers,
+        }
+    }
+}
+
 /// Why words are not read.
 #[derive(Clone, Copy, Debug, PartialEq, Eq)]
 pub enum WordFault {

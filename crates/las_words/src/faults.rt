@@ -7,23 +7,25 @@ ghost use Rattle.las_words.specs.Texts.{texts};
 ghost use Rattle.las_words.specs.Tallies.{tallies_of};
 ghost use Rattle.las_words.specs.Faults.{fits, first_wrong, misplaced, value_fault, follows_too_many};
 ghost use Rattle.las_words.specs.Faults.{crossed, word_fault_of, first_fault};
-ghost use Rattle.las_words.specs.Pieces.{StandIn};
 
 use crate::numbers::{number_in, number_or_zero, signed_in};
+use crate::options::Options;
 use crate::pieces::{Piece, count_of, words_from};
-use crate::settings::{number_said, start_of, stop_of};
+use crate::settings::number_said;
 use crate::table::{Flag, Values};
-use crate::tallies::is_tallied;
 use crate::texts::word;
 
 /// The index of the first word that is wrong by itself or after those before it. A missing value has the number of
 /// words. The names are those of the taps.
-pub fn first_fault(names: &[String], words: &[String], pieces: &[Piece]) -> Option<usize>
-    requires { StandIn words.now pieces.now }
-    ensures { result ≡ first_fault (texts names.now) (texts words.now) [] pieces.now }
+pub(crate) fn first_fault(names: &[String], options: &Options<'_>) -> Option<usize>
+    ensures { result ≡ first_fault (texts names.now) (texts options.now.words.now) [] options.now.pieces.now }
 {
-    for (i, piece) in pieces.iter().enumerate() {
-        let fault = fault_of(names, words, &pieces[..i], piece);
+    for (i, piece) in options.pieces.iter().enumerate() {
+        let earlier = Options {
+            words: options.words,
+            pieces: &options.pieces[..i],
+        };
+        let fault = fault_of(names, &earlier, piece);
         if fault.is_some() {
             return fault;
         }
@@ -32,37 +34,35 @@ pub fn first_fault(names: &[String], words: &[String], pieces: &[Piece]) -> Opti
 }
 
 // What is wrong with an option or its values, after the options before it.
-fn fault_of(names: &[String], words: &[String], earlier: &[Piece], piece: &Piece) -> Option<usize>
-    requires at { piece.now.at < length words.now }
-    requires earlier { StandIn words.now earlier.now }
-    ensures { result ≡ word_fault_of (texts names.now) (texts words.now) earlier.now piece.now }
+fn fault_of(names: &[String], earlier: &Options<'_>, piece: &Piece) -> Option<usize>
+    requires at { piece.now.at < length earlier.now.words.now }
+    ensures { result ≡ word_fault_of (texts names.now) (texts earlier.now.words.now) earlier.now.pieces.now piece.now }
 {
     let Some(flag) = piece.flag else {
         return Some(piece.at);
     };
-    if follows_too_many(words, earlier, flag) {
+    if follows_too_many(earlier, flag) {
         return Some(piece.at);
     }
-    let wrong = value_fault(names, words, earlier, flag.values(), piece.at + 1);
+    let wrong = value_fault(names, earlier, flag.values(), piece.at + 1);
     if wrong.is_some() {
         return wrong;
     }
-    crossed(words, earlier, flag, piece.at + 1)
+    crossed(earlier, flag, piece.at + 1)
 }
 
 // The index of a place of a range of records that cannot stand beside the one before it: the start is above the stop.
-fn crossed(words: &[String], earlier: &[Piece], flag: Flag, at: usize) -> Option<usize>
-    requires { StandIn words.now earlier.now }
-    ensures { result ≡ crossed (texts words.now) earlier.now flag at }
+fn crossed(earlier: &Options<'_>, flag: Flag, at: usize) -> Option<usize>
+    ensures { result ≡ crossed (texts earlier.now.words.now) earlier.now.pieces.now flag at }
 {
     let (start, stop) = match flag {
         Flag::StartAtPoint => (
-            number_said(flag, 0, word(words, at)),
-            stop_of(words, earlier),
+            number_said(flag, 0, word(earlier.words, at)),
+            earlier.stop_of(),
         ),
         Flag::StopAtPoint => (
-            start_of(words, earlier),
-            number_said(flag, u32::MAX, word(words, at)),
+            earlier.start_of(),
+            number_said(flag, u32::MAX, word(earlier.words, at)),
         ),
         _ => return None,
     };
@@ -70,12 +70,12 @@ fn crossed(words: &[String], earlier: &[Piece], flag: Flag, at: usize) -> Option
 }
 
 // Whether an option stands after more of its rivals than it may.
-fn follows_too_many(words: &[String], earlier: &[Piece], flag: Flag) -> bool
-    ensures { result ≡ follows_too_many (texts words.now) earlier.now flag }
+fn follows_too_many(earlier: &Options<'_>, flag: Flag) -> bool
+    ensures { result ≡ follows_too_many (texts earlier.now.words.now) earlier.now.pieces.now flag }
 {
     let mut count = 0;
-    for piece in earlier {
-        if flag.is_rival(word(words, piece.at)) {
+    for piece in earlier.pieces {
+        if flag.is_rival(word(earlier.words, piece.at)) {
             count += 1;
         }
     }
@@ -83,24 +83,18 @@ fn follows_too_many(words: &[String], earlier: &[Piece], flag: Flag) -> bool
 }
 
 // The index of the first value of an option that is wrong. The values begin at an index.
-fn value_fault(
-    names: &[String],
-    words: &[String],
-    earlier: &[Piece],
-    values: Values,
-    at: usize,
-) -> Option<usize>
-    requires at { at < length words.now + 1 }
-    requires earlier { StandIn words.now earlier.now }
-    ensures { result ≡ value_fault (texts names.now) (tallies_of (texts words.now) earlier.now) values at
-        (drop at (texts words.now)) }
+fn value_fault(names: &[String], earlier: &Options<'_>, values: Values, at: usize) -> Option<usize>
+    requires at { at < length earlier.now.words.now + 1 }
+    ensures { result ≡ value_fault (texts names.now) (tallies_of
+        (texts earlier.now.words.now) earlier.now.pieces.now) values at
+        (drop at (texts earlier.now.words.now)) }
 {
-    let after = words_from(words, at);
+    let after = words_from(earlier.words, at);
     let wrong = first_wrong(names, values, at, count_of(values, after), after);
     if wrong.is_some() {
         return wrong;
     }
-    misplaced(words, earlier, values, at, after)
+    misplaced(earlier, values, at, after)
 }
 
 // The index of the first value that is missing or not of its form.
@@ -149,16 +143,10 @@ fn is_among(word: &str, names: &[String]) -> bool
 }
 
 // The index of a high number that is below its low one, or of a tap that is named already.
-fn misplaced(
-    words: &[String],
-    earlier: &[Piece],
-    values: Values,
-    at: usize,
-    after: &[String],
-) -> Option<usize>
+fn misplaced(earlier: &Options<'_>, values: Values, at: usize, after: &[String]) -> Option<usize>
     requires at { at + 1 < 2 ^ 64 }
-    requires earlier { StandIn words.now earlier.now }
-    ensures { result ≡ misplaced (tallies_of (texts words.now) earlier.now) values at (texts after.now) }
+    ensures { result ≡ misplaced (tallies_of (texts earlier.now.words.now) earlier.now.pieces.now) values at
+        (texts after.now) }
 {
     match values {
         Values::Bounds(most) => {
@@ -167,7 +155,7 @@ fn misplaced(
             if high < low { Some(at + 1) } else { None }
         }
         Values::Tap => {
-            if is_tallied(words, earlier, word(after, 0)) {
+            if earlier.is_tallied(word(after, 0)) {
                 Some(at)
             } else {
                 None

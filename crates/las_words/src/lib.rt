@@ -8,6 +8,7 @@ mod command;
 mod faults;
 mod names;
 mod numbers;
+mod options;
 mod pieces;
 mod plan;
 mod read;

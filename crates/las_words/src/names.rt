@@ -4,11 +4,9 @@ ghost use Rattle.std.specs.Prelude.{◌≡◌, IfOk};
 ghost use Rattle.las_words.specs.Texts.{texts};
 ghost use Rattle.las_words.specs.Names.{extension_of, stem_of, number_within, is_part_name, name_after, overwritten_name};
 ghost use Rattle.las_words.specs.Names.{plain_copy, unfit_parts, same_output, wrong_name};
-ghost use Rattle.las_words.specs.Pieces.{StandIn};
 
 use crate::numbers::number_or_zero;
-use crate::pieces::Piece;
-use crate::settings::{is_given, is_value, place_of, text_of};
+use crate::options::Options;
 use crate::table::Tool;
 use crate::texts::is_packed_name;
 use las_filter::part_name;
@@ -16,7 +14,7 @@ use std::alloc::{AllocError, Global};
 use std::str;
 
 /// The ending of the names of parts, by the name of the output.
-pub fn end_of(output: &str) -> &'static str
+pub(crate) fn end_of(output: &str) -> &'static str
     ensures { result.now ≡ extension_of output.now }
 {
     let bytes = output.as_bytes();
@@ -30,7 +28,7 @@ pub fn end_of(output: &str) -> &'static str
 }
 
 /// The stem of the names of parts, by the name of the output.
-pub fn stem_of(output: &str) -> &str
+pub(crate) fn stem_of(output: &str) -> &str
     ensures { result.now ≡ stem_of output.now }
 {
     match output.strip_suffix(end_of(output)) {
@@ -62,96 +60,85 @@ fn is_part_name(alloc: Global, stem: &str, end: &str, name: &str) -> Result<bool
 }
 
 // The index of the name after an option.
-fn name_after(words: &[String], name: &str, pieces: &[Piece]) -> Option<usize>
-    requires { StandIn words.now pieces.now }
-    ensures { result ≡ name_after (texts words.now) name.now pieces.now }
+fn name_after(options: &Options<'_>, name: &str) -> Option<usize>
+    ensures { result ≡ name_after (texts options.now.words.now) name.now options.now.pieces.now }
 {
-    place_of(words, name, pieces).map(|at| at + 1)
+    options.place_of(name).map(|at| at + 1)
 }
 
 // The index of the output's name, if it is that of an input.
-fn same_name(words: &[String], pieces: &[Piece]) -> Option<usize>
-    requires { StandIn words.now pieces.now }
-    ensures { result ≡ overwritten_name (texts words.now) pieces.now }
+fn same_name(options: &Options<'_>) -> Option<usize>
+    ensures { result ≡ overwritten_name (texts options.now.words.now) options.now.pieces.now }
 {
-    if is_value(words, "-i", pieces, text_of(words, "-o", pieces)) {
-        name_after(words, "-o", pieces)
+    if options.is_value("-i", options.text_of("-o")) {
+        name_after(options, "-o")
     } else {
         None
     }
 }
 
 // The index of the output's name, if parts cannot be named after it: packed ones, or the input.
-fn unfit_parts(
-    alloc: Global,
-    words: &[String],
-    pieces: &[Piece],
-) -> Result<Option<usize>, AllocError>
-    requires { StandIn words.now pieces.now }
-    ensures { IfOk result (λ index. index ≡ unfit_parts (texts words.now) pieces.now) }
+fn unfit_parts(alloc: Global, options: &Options<'_>) -> Result<Option<usize>, AllocError>
+    ensures { IfOk result (λ index. index ≡ unfit_parts (texts options.now.words.now) options.now.pieces.now) }
 {
-    let input = text_of(words, "-i", pieces);
-    let output = text_of(words, "-o", pieces);
+    let input = options.text_of("-i");
+    let output = options.text_of("-o");
     if is_packed_name(output) || is_part_name(alloc, stem_of(output), end_of(output), input)? {
-        Ok(name_after(words, "-o", pieces))
+        Ok(name_after(options, "-o"))
     } else {
         Ok(None)
     }
 }
 
 // The index of the packed output's name, if it is that of the plain one.
-fn same_output(words: &[String], pieces: &[Piece]) -> Option<usize>
-    requires { StandIn words.now pieces.now }
-    ensures { result ≡ same_output (texts words.now) pieces.now }
+fn same_output(options: &Options<'_>) -> Option<usize>
+    ensures { result ≡ same_output (texts options.now.words.now) options.now.pieces.now }
 {
-    if text_of(words, "-z", pieces) == text_of(words, "-o", pieces) {
-        name_after(words, "-z", pieces)
+    if options.text_of("-z") == options.text_of("-o") {
+        name_after(options, "-z")
     } else {
         None
     }
 }
 
 // The index of the output's name, if chunks are copied into it and it is that of a plain file.
-fn plain_copy(words: &[String], pieces: &[Piece]) -> Option<usize>
-    requires { StandIn words.now pieces.now }
-    ensures { result ≡ plain_copy (texts words.now) pieces.now }
+fn plain_copy(options: &Options<'_>) -> Option<usize>
+    ensures { result ≡ plain_copy (texts options.now.words.now) options.now.pieces.now }
 {
-    if is_given(words, "-copy_chunks", pieces)
-        && !is_given(words, "-olaz", pieces)
-        && !is_packed_name(text_of(words, "-o", pieces))
+    if options.is_given("-copy_chunks")
+        && !options.is_given("-olaz")
+        && !is_packed_name(options.text_of("-o"))
     {
-        name_after(words, "-o", pieces)
+        name_after(options, "-o")
     } else {
         None
     }
 }
 
 /// The index of the name that a command may not have.
-pub fn wrong_name(
+pub(crate) fn wrong_name(
     alloc: Global,
     tool: Tool,
-    words: &[String],
-    pieces: &[Piece],
+    options: &Options<'_>,
 ) -> Result<Option<usize>, AllocError>
-    requires { StandIn words.now pieces.now }
-    ensures { IfOk result (λ index. index ≡ wrong_name tool (texts words.now) pieces.now) }
+    ensures { IfOk result (λ index. index ≡ wrong_name tool (texts options.now.words.now) options.now.pieces.now) }
 {
     match tool {
         Tool::Lassplit => {
-            let same = same_name(words, pieces);
+            let same = same_name(options);
             if same.is_some() {
                 return Ok(same);
             }
-            unfit_parts(alloc, words, pieces)
+            unfit_parts(alloc, options)
         }
         Tool::Lasmerge => {
-            let same = same_name(words, pieces);
+            let same = same_name(options);
             if same.is_some() {
                 return Ok(same);
             }
-            Ok(plain_copy(words, pieces))
+            Ok(plain_copy(options))
         }
-        Tool::Make => Ok(same_output(words, pieces)),
-        _ => Ok(same_name(words, pieces)),
+        Tool::Make => Ok(same_output(options)),
+        _ => Ok(same_name(options)),
     }
 }

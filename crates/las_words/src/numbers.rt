@@ -5,7 +5,7 @@ ghost use Rattle.std.specs.Str.{all_ascii_digits};
 ghost use Rattle.las_words.specs.Numbers.{is_digits, is_number, number_in_range, number_or_zero, without_minus, signed_in};
 
 /// Whether a word is not empty and consists of digits alone.
-pub fn is_digits(word: &[u8]) -> bool
+pub(crate) fn is_digits(word: &[u8]) -> bool
     ensures { result ≡ is_digits word.now }
 {
     !word.is_empty() && all_digits(word)
@@ -30,7 +30,7 @@ fn is_number(word: &[u8]) -> bool
 }
 
 /// The number that a word writes, if it is one of this range, both ends included.
-pub fn number_in(word: &str, low: u32, high: u32) -> Option<u32>
+pub(crate) fn number_in(word: &str, low: u32, high: u32) -> Option<u32>
     ensures { result ≡ number_in_range low high word.now }
 {
     if !is_number(word.as_bytes()) {
@@ -43,7 +43,7 @@ pub fn number_in(word: &str, low: u32, high: u32) -> Option<u32>
 }
 
 /// The number of at most `most` that a word writes, or 0 if it writes none.
-pub fn number_or_zero(word: &str, most: u32) -> u32
+pub(crate) fn number_or_zero(word: &str, most: u32) -> u32
     ensures value { result ≡ number_or_zero most word.now }
     ensures range { result ≤ most }
 {
@@ -62,7 +62,7 @@ fn without_minus(word: &[u8]) -> &[u8]
 }
 
 /// The signed number of 32 bits that a word writes, with one minus at most.
-pub fn signed_in(word: &str) -> Option<i32>
+pub(crate) fn signed_in(word: &str) -> Option<i32>
     ensures { result ≡ signed_in word.now }
 {
     if !is_number(without_minus(word.as_bytes())) {

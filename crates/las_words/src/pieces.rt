@@ -22,7 +22,7 @@ pub struct Piece {
 }
 
 /// The words after the first, cut into options. The words between two options are values of the first of them.
-pub fn pieces(alloc: Global, tool: Tool, words: &[String]) -> Result<Vec<Piece>, AllocError>
+pub(crate) fn pieces(alloc: Global, tool: Tool, words: &[String]) -> Result<Vec<Piece>, AllocError>
     ensures pieces { IfOk result (λ pieces. pieces.items ≡ cut_words tool 1 0 (drop 1 (texts words.now))) }
     ensures within { IfOk result (λ pieces. StandIn words.now pieces.items) }
 {
@@ -41,7 +41,7 @@ pub fn pieces(alloc: Global, tool: Tool, words: &[String]) -> Result<Vec<Piece>,
 }
 
 /// The words from an index on.
-pub fn words_from(words: &[String], at: usize) -> &[String]
+pub(crate) fn words_from(words: &[String], at: usize) -> &[String]
     ensures { texts result.now ≡ drop at (texts words.now) }
 {
     if at < words.len() { &words[at..] } else { &[] }
@@ -58,7 +58,7 @@ fn count_after(flag: Option<Flag>, after: &[String]) -> usize
 }
 
 /// How many words are values of an option, or should be.
-pub fn count_of(values: Values, after: &[String]) -> usize
+pub(crate) fn count_of(values: Values, after: &[String]) -> usize
     ensures { result ≡ values_of values (texts after.now) }
 {
     match values {

@@ -4,49 +4,42 @@ ghost use Rattle.std.specs.Prelude.{◌≡◌, ◌<◌, ◌+◌, ◌^◌, pos, I
 ghost use Rattle.las_words.specs.Texts.{texts};
 ghost use Rattle.las_words.specs.Table.{mask_of, first_number, second_number, shift_at};
 ghost use Rattle.las_words.specs.Plans.{filter_in, change_in, filters_of, changes_given};
-ghost use Rattle.las_words.specs.Pieces.{StandIn};
 
 use crate::numbers::{number_or_zero, signed_in};
-use crate::pieces::{Piece, count_of, words_from};
+use crate::options::Options;
+use crate::pieces::{count_of, words_from};
 use crate::table::{Flag, Values};
 use crate::texts::word;
 use las_filter::{Change, Keep};
 use std::alloc::{AllocError, Global};
 
-/// The filters, in the order of the words.
-pub fn filters_of(
-    alloc: Global,
-    words: &[String],
-    pieces: &[Piece],
-) -> Result<Vec<Keep>, AllocError>
-    requires { StandIn words.now pieces.now }
-    ensures { IfOk result (λ keeps. keeps.items ≡ filters_of (texts words.now) pieces.now) }
-{
-    let mut keeps = Vec::new(alloc);
-    for piece in pieces {
-        if let Some(keep) = filter_in(piece.flag, words_from(words, piece.at + 1)) {
-            keeps.push(keep)?;
+impl Options<'_> {
+    /// The filters, in the order of the words.
+    pub(crate) fn filters_of(&self, alloc: Global) -> Result<Vec<Keep>, AllocError>
+        ensures { IfOk result (λ keeps. keeps.items ≡ filters_of (texts self.now.words.now) self.now.pieces.now) }
+    {
+        let mut keeps = Vec::new(alloc);
+        for piece in self.pieces {
+            if let Some(keep) = filter_in(piece.flag, words_from(self.words, piece.at + 1)) {
+                keeps.push(keep)?;
+            }
         }
+        Ok(keeps)
     }
-    Ok(keeps)
-}
 
-/// The changes, in the order of the words.
-pub fn changes_of(
-    alloc: Global,
-    words: &[String],
-    pieces: &[Piece],
-) -> Result<Vec<Change>, AllocError>
-    requires { StandIn words.now pieces.now }
-    ensures { IfOk result (λ changes. changes.items ≡ changes_given (texts words.now) pieces.now) }
-{
-    let mut changes = Vec::new(alloc);
-    for piece in pieces {
-        if let Some(change) = change_in(piece.flag, words_from(words, piece.at + 1)) {
-            changes.push(change)?;
+    /// The changes, in the order of the words.
+    pub(crate) fn changes_of(&self, alloc: Global) -> Result<Vec<Change>, AllocError>
+        ensures { IfOk result (λ changes. changes.items ≡ changes_given
+            (texts self.now.words.now) self.now.pieces.now) }
+    {
+        let mut changes = Vec::new(alloc);
+        for piece in self.pieces {
+            if let Some(change) = change_in(piece.flag, words_from(self.words, piece.at + 1)) {
+                changes.push(change)?;
+            }
         }
+        Ok(changes)
     }
-    Ok(changes)
 }
 
 // The filter that a word means if it is an option, of the words after it.

@@ -12,19 +12,13 @@ ghost use Rattle.las_words.specs.Asked.{asked_by, IsSoundAsked};
 ghost use Rattle.las_words.specs.Says.{says, asks, usage, asked_of, missing_option};
 ghost use Rattle.las_words.specs.Says.{packs_output, wrong_word};
 ghost use Rattle.las_words.specs.declared.table.Tool.TheVariants.{Laszip, Las2las, Lasinfo, Lassplit, Lasmerge, Make};
-ghost use Rattle.las_words.specs.Pieces.{StandIn};
 
 use crate::command::{Command, Packing, WordFault};
 use crate::faults::first_fault;
 use crate::names::{end_of, stem_of, wrong_name};
-use crate::pieces::{Piece, pieces};
-use crate::plan::{changes_of, filters_of};
-use crate::settings::{
-    chunk_of, extra_of, format_of, is_given, number_of, pick_alone, pick_of, rule_of, start_of,
-    step_of, stop_of, text_of, texts_of, workers_of,
-};
+use crate::options::Options;
+use crate::pieces::pieces;
 use crate::table::{Flag, Tool};
-use crate::tallies::tallies_of;
 use crate::texts::{is_packed_name, word};
 use las_filter::Plan;
 use las_info::Tap;
@@ -76,10 +70,14 @@ fn read(alloc: Global, words: &[String], names: &[String]) -> Result<Command, Wo
         return Err(WordFault::Usage(0));
     };
     let pieces = pieces(alloc, tool, words)?;
-    if let Some(index) = wrong_word(alloc, names, tool, words, &pieces)? {
+    let options = Options {
+        words,
+        pieces: &pieces,
+    };
+    if let Some(index) = wrong_word(alloc, names, tool, &options)? {
         return Err(WordFault::Usage(index));
     }
-    Ok(command_of(alloc, tool, words, &pieces)?)
+    Ok(command_of(alloc, tool, &options)?)
 }
 
 // The index of the first word that is wrong.
@@ -87,208 +85,191 @@ fn wrong_word(
     alloc: Global,
     names: &[String],
     tool: Tool,
-    words: &[String],
-    pieces: &[Piece],
+    options: &Options<'_>,
 ) -> Result<Option<usize>, AllocError>
-    requires { StandIn words.now pieces.now }
-    ensures { IfOk result (λ index. index ≡ wrong_word (texts names.now) tool (texts words.now) pieces.now) }
+    ensures { IfOk result (λ index. index ≡ wrong_word (texts names.now) tool
+        (texts options.now.words.now) options.now.pieces.now) }
 {
-    let fault = first_fault(names, words, pieces);
+    let fault = first_fault(names, options);
     if fault.is_some() {
         return Ok(fault);
     }
-    let missing = missing_option(tool, words, pieces);
+    let missing = missing_option(tool, options);
     if missing.is_some() {
         return Ok(missing);
     }
-    let name = wrong_name(alloc, tool, words, pieces)?;
+    let name = wrong_name(alloc, tool, options)?;
     if name.is_some() {
         return Ok(name);
     }
-    Ok(pick_alone(words, pieces))
+    Ok(options.pick_alone())
 }
 
 // The number of words, if a required option is missing.
-fn missing_option(tool: Tool, words: &[String], pieces: &[Piece]) -> Option<usize>
-    requires { StandIn words.now pieces.now }
-    ensures { result ≡ missing_option tool (texts words.now) pieces.now }
+fn missing_option(tool: Tool, options: &Options<'_>) -> Option<usize>
+    ensures { result ≡ missing_option tool (texts options.now.words.now) options.now.pieces.now }
 {
     let all = match tool {
         Tool::Laszip | Tool::Las2las | Tool::Lasmerge => {
-            is_given(words, "-i", pieces) && is_given(words, "-o", pieces)
+            options.is_given("-i") && options.is_given("-o")
         }
-        Tool::Lasinfo => is_given(words, "-i", pieces),
+        Tool::Lasinfo => options.is_given("-i"),
         Tool::Lassplit => {
-            is_given(words, "-i", pieces)
-                && is_given(words, "-o", pieces)
-                && is_way_given(words, pieces)
+            options.is_given("-i") && options.is_given("-o") && is_way_given(options)
         }
         Tool::Make => {
-            is_given(words, "-o", pieces)
-                && is_given(words, "-z", pieces)
-                && is_given(words, "-points", pieces)
-                && is_given(words, "-seed", pieces)
+            options.is_given("-o")
+                && options.is_given("-z")
+                && options.is_given("-points")
+                && options.is_given("-seed")
         }
     };
-    if all { None } else { Some(words.len()) }
+    if all { None } else { Some(options.words.len()) }
 }
 
 // Whether a way to split a file is given.
-fn is_way_given(words: &[String], pieces: &[Piece]) -> bool
-    requires { StandIn words.now pieces.now }
-    ensures { result ≡ list_any (λ name. is_given (texts words.now) name pieces.now) ways }
+fn is_way_given(options: &Options<'_>) -> bool
+    ensures { result ≡ list_any (λ name. is_given (texts options.now.words.now) name options.now.pieces.now) ways }
 {
-    is_given(words, "-split", pieces)
-        || is_given(words, "-by_classification", pieces)
-        || is_given(words, "-by_flightline", pieces)
-        || is_given(words, "-by_return", pieces)
+    options.is_given("-split")
+        || options.is_given("-by_classification")
+        || options.is_given("-by_flightline")
+        || options.is_given("-by_return")
 }
 
 // The command of a tool with these options.
-fn command_of(
-    alloc: Global,
-    tool: Tool,
-    words: &[String],
-    pieces: &[Piece],
-) -> Result<Command, AllocError>
-    requires { StandIn words.now pieces.now }
-    ensures { IfOk result (λ command. asked_by command ≡ asked_of tool (texts words.now) pieces.now) }
+fn command_of(alloc: Global, tool: Tool, options: &Options<'_>) -> Result<Command, AllocError>
+    ensures { IfOk result (λ command. asked_by command ≡ asked_of tool
+        (texts options.now.words.now) options.now.pieces.now) }
 {
     match tool {
-        Tool::Laszip => laszip_of(alloc, words, pieces),
-        Tool::Las2las => las2las_of(alloc, words, pieces),
-        Tool::Lasinfo => lasinfo_of(alloc, words, pieces),
-        Tool::Lassplit => lassplit_of(alloc, words, pieces),
-        Tool::Lasmerge => lasmerge_of(alloc, words, pieces),
-        Tool::Make => make_of(alloc, words, pieces),
+        Tool::Laszip => laszip_of(alloc, options),
+        Tool::Las2las => las2las_of(alloc, options),
+        Tool::Lasinfo => lasinfo_of(alloc, options),
+        Tool::Lassplit => lassplit_of(alloc, options),
+        Tool::Lasmerge => lasmerge_of(alloc, options),
+        Tool::Make => make_of(alloc, options),
     }
 }
 
 // The command `laszip` with these options.
-fn laszip_of(alloc: Global, words: &[String], pieces: &[Piece]) -> Result<Command, AllocError>
-    requires { StandIn words.now pieces.now }
-    ensures { IfOk result (λ command. asked_by command ≡ asked_of Laszip (texts words.now) pieces.now) }
+fn laszip_of(alloc: Global, options: &Options<'_>) -> Result<Command, AllocError>
+    ensures { IfOk result (λ command. asked_by command ≡ asked_of Laszip
+        (texts options.now.words.now) options.now.pieces.now) }
 {
     Ok(Command::Laszip {
-        input: copy_of(alloc, words, "-i", pieces)?,
-        output: copy_of(alloc, words, "-o", pieces)?,
-        chunk: chunk_of(words, pieces),
-        workers: workers_of(words, pieces),
+        input: copy_of(alloc, options, "-i")?,
+        output: copy_of(alloc, options, "-o")?,
+        chunk: options.chunk_of(),
+        workers: options.workers_of(),
     })
 }
 
 // The command `las2las` with these options.
-fn las2las_of(alloc: Global, words: &[String], pieces: &[Piece]) -> Result<Command, AllocError>
-    requires { StandIn words.now pieces.now }
-    ensures { IfOk result (λ command. asked_by command ≡ asked_of Las2las (texts words.now) pieces.now) }
+fn las2las_of(alloc: Global, options: &Options<'_>) -> Result<Command, AllocError>
+    ensures { IfOk result (λ command. asked_by command ≡ asked_of Las2las
+        (texts options.now.words.now) options.now.pieces.now) }
 {
     Ok(Command::Las2las {
-        input: copy_of(alloc, words, "-i", pieces)?,
-        output: copy_of(alloc, words, "-o", pieces)?,
-        plan: plan_of(alloc, words, pieces)?,
-        packing: packing_of(words, pieces),
-        workers: workers_of(words, pieces),
-        start: start_of(words, pieces),
-        stop: stop_of(words, pieces),
-        step: step_of(words, pieces),
-        pick: pick_of(words, pieces),
-        unique: is_given(words, "-drop_repeated", pieces),
-        tallies: tallies_of(alloc, words, pieces)?,
+        input: copy_of(alloc, options, "-i")?,
+        output: copy_of(alloc, options, "-o")?,
+        plan: plan_of(alloc, options)?,
+        packing: packing_of(options),
+        workers: options.workers_of(),
+        start: options.start_of(),
+        stop: options.stop_of(),
+        step: options.step_of(),
+        pick: options.pick_of(),
+        unique: options.is_given("-drop_repeated"),
+        tallies: options.tallies_of(alloc)?,
     })
 }
 
 // The command `lasinfo` with these options.
-fn lasinfo_of(alloc: Global, words: &[String], pieces: &[Piece]) -> Result<Command, AllocError>
-    requires { StandIn words.now pieces.now }
-    ensures { IfOk result (λ command. asked_by command ≡ asked_of Lasinfo (texts words.now) pieces.now) }
+fn lasinfo_of(alloc: Global, options: &Options<'_>) -> Result<Command, AllocError>
+    ensures { IfOk result (λ command. asked_by command ≡ asked_of Lasinfo
+        (texts options.now.words.now) options.now.pieces.now) }
 {
     Ok(Command::Lasinfo {
-        input: copy_of(alloc, words, "-i", pieces)?,
-        tallies: tallies_of(alloc, words, pieces)?,
-        workers: workers_of(words, pieces),
+        input: copy_of(alloc, options, "-i")?,
+        tallies: options.tallies_of(alloc)?,
+        workers: options.workers_of(),
     })
 }
 
 // The command `lassplit` with these options.
-fn lassplit_of(alloc: Global, words: &[String], pieces: &[Piece]) -> Result<Command, AllocError>
-    requires { StandIn words.now pieces.now }
-    ensures { IfOk result (λ command. asked_by command ≡ asked_of Lassplit (texts words.now) pieces.now) }
+fn lassplit_of(alloc: Global, options: &Options<'_>) -> Result<Command, AllocError>
+    ensures { IfOk result (λ command. asked_by command ≡ asked_of Lassplit
+        (texts options.now.words.now) options.now.pieces.now) }
 {
-    let output = text_of(words, "-o", pieces);
+    let output = options.text_of("-o");
     Ok(Command::Lassplit {
-        input: copy_of(alloc, words, "-i", pieces)?,
+        input: copy_of(alloc, options, "-i")?,
         stem: String::from_str(alloc, stem_of(output))?,
         end: String::from_str(alloc, end_of(output))?,
-        rule: rule_of(words, pieces),
-        workers: workers_of(words, pieces),
+        rule: options.rule_of(),
+        workers: options.workers_of(),
     })
 }
 
 // The command `lasmerge` with these options.
-fn lasmerge_of(alloc: Global, words: &[String], pieces: &[Piece]) -> Result<Command, AllocError>
-    requires { StandIn words.now pieces.now }
-    ensures { IfOk result (λ command. asked_by command ≡ asked_of Lasmerge (texts words.now) pieces.now) }
+fn lasmerge_of(alloc: Global, options: &Options<'_>) -> Result<Command, AllocError>
+    ensures { IfOk result (λ command. asked_by command ≡ asked_of Lasmerge
+        (texts options.now.words.now) options.now.pieces.now) }
 {
     Ok(Command::Lasmerge {
-        output: copy_of(alloc, words, "-o", pieces)?,
-        inputs: texts_of(alloc, words, "-i", pieces)?,
-        packing: packing_of(words, pieces),
-        workers: workers_of(words, pieces),
-        copy: is_given(words, "-copy_chunks", pieces),
+        output: copy_of(alloc, options, "-o")?,
+        inputs: options.texts_of(alloc, "-i")?,
+        packing: packing_of(options),
+        workers: options.workers_of(),
+        copy: options.is_given("-copy_chunks"),
     })
 }
 
 // The command `make` with these options.
-fn make_of(alloc: Global, words: &[String], pieces: &[Piece]) -> Result<Command, AllocError>
-    requires { StandIn words.now pieces.now }
-    ensures { IfOk result (λ command. asked_by command ≡ asked_of Make (texts words.now) pieces.now) }
+fn make_of(alloc: Global, options: &Options<'_>) -> Result<Command, AllocError>
+    ensures { IfOk result (λ command. asked_by command ≡ asked_of Make
+        (texts options.now.words.now) options.now.pieces.now) }
 {
     Ok(Command::Make {
-        output: copy_of(alloc, words, "-o", pieces)?,
-        packed: copy_of(alloc, words, "-z", pieces)?,
-        points: number_of(words, Flag::Points, 0, pieces),
-        seed: number_of(words, Flag::Seed, 0, pieces),
-        format: format_of(words, pieces),
-        extra: extra_of(words, pieces),
-        chunk: chunk_of(words, pieces),
-        workers: workers_of(words, pieces),
+        output: copy_of(alloc, options, "-o")?,
+        packed: copy_of(alloc, options, "-z")?,
+        points: options.number_of(Flag::Points, 0),
+        seed: options.number_of(Flag::Seed, 0),
+        format: options.format_of(),
+        extra: options.extra_of(),
+        chunk: options.chunk_of(),
+        workers: options.workers_of(),
     })
 }
 
 // The filters and the changes.
-fn plan_of(alloc: Global, words: &[String], pieces: &[Piece]) -> Result<Plan, AllocError>
-    requires { StandIn words.now pieces.now }
-    ensures { IfOk result (λ plan. steps_of plan ≡ plan_of (texts words.now) pieces.now) }
+fn plan_of(alloc: Global, options: &Options<'_>) -> Result<Plan, AllocError>
+    ensures { IfOk result (λ plan. steps_of plan ≡ plan_of (texts options.now.words.now) options.now.pieces.now) }
 {
     Ok(Plan {
-        keeps: filters_of(alloc, words, pieces)?,
-        changes: changes_of(alloc, words, pieces)?,
+        keeps: options.filters_of(alloc)?,
+        changes: options.changes_of(alloc)?,
     })
 }
 
 // How the output of `las2las` or `lasmerge` is written.
-fn packing_of(words: &[String], pieces: &[Piece]) -> Packing
-    requires { StandIn words.now pieces.now }
-    ensures packed { result.packed ≡ packs_output (texts words.now) pieces.now }
-    ensures chunk { result.chunk ≡ chunk_given (texts words.now) pieces.now }
+fn packing_of(options: &Options<'_>) -> Packing
+    ensures packed { result.packed ≡ packs_output (texts options.now.words.now) options.now.pieces.now }
+    ensures chunk { result.chunk ≡ chunk_given (texts options.now.words.now) options.now.pieces.now }
 {
-    let packed = is_given(words, "-olaz", pieces)
-        || (!is_given(words, "-olas", pieces) && is_packed_name(text_of(words, "-o", pieces)));
+    let packed = options.is_given("-olaz")
+        || (!options.is_given("-olas") && is_packed_name(options.text_of("-o")));
     Packing {
         packed,
-        chunk: chunk_of(words, pieces),
+        chunk: options.chunk_of(),
     }
 }
 
 // The first value of an option, as a text of its own.
-fn copy_of(
-    alloc: Global,
-    words: &[String],
-    name: &str,
-    pieces: &[Piece],
-) -> Result<String, AllocError>
-    requires { StandIn words.now pieces.now }
-    ensures { IfOk result (λ text. string_bytes text ≡ text_given (texts words.now) name.now pieces.now) }
+fn copy_of(alloc: Global, options: &Options<'_>, name: &str) -> Result<String, AllocError>
+    ensures { IfOk result (λ text. string_bytes text ≡ text_given
+        (texts options.now.words.now) name.now options.now.pieces.now) }
 {
-    String::from_str(alloc, text_of(words, name, pieces))
+    String::from_str(alloc, options.text_of(name))
 }

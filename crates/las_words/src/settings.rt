@@ -8,200 +8,182 @@ ghost use Rattle.las_words.specs.Table.{row_of};
 ghost use Rattle.las_words.specs.Settings.{place_of, is_given, text_given, texts_of, number_given, number_said};
 ghost use Rattle.las_words.specs.Settings.{chunk_given, workers_of, start_of, stop_given, format_given, extra_given, rule_of};
 ghost use Rattle.las_words.specs.Settings.{pick_alone, pick_of, step_of};
-ghost use Rattle.las_words.specs.Pieces.{StandIn};
 
 use crate::numbers::number_in;
-use crate::pieces::Piece;
+use crate::options::Options;
 use crate::table::{Flag, Values};
 use crate::texts::{push_word, word};
 use las_filter::Rule;
 use las_thin::Pick;
 use std::alloc::{AllocError, Global};
 
-/// The index of the first option of a name.
-pub fn place_of(words: &[String], name: &str, pieces: &[Piece]) -> Option<usize>
-    requires { StandIn words.now pieces.now }
-    ensures place { result ≡ place_of (texts words.now) name.now pieces.now }
-    ensures within { IfSome result (λ at. at < length words.now) }
-{
-    for piece in pieces {
-        if word(words, piece.at) == name {
-            return Some(piece.at);
+impl<'a> Options<'a> {
+    /// The index of the first option of a name.
+    pub(crate) fn place_of(&self, name: &str) -> Option<usize>
+        ensures place { result ≡ place_of (texts self.now.words.now) name.now self.now.pieces.now }
+        ensures within { IfSome result (λ at. at < length self.now.words.now) }
+    {
+        for piece in self.pieces {
+            if word(self.words, piece.at) == name {
+                return Some(piece.at);
+            }
+        }
+        None
+    }
+
+    /// Whether an option is given.
+    pub(crate) fn is_given(&self, name: &str) -> bool
+        ensures { result ≡ is_given (texts self.now.words.now) name.now self.now.pieces.now }
+    {
+        self.place_of(name).is_some()
+    }
+
+    /// The first value of an option, and an empty one if it is not given.
+    pub(crate) fn text_of(&self, name: &str) -> &'a str
+        ensures { result.now ≡ text_given (texts self.now.words.now) name.now self.now.pieces.now }
+    {
+        match self.place_of(name) {
+            Some(at) => word(self.words, at + 1),
+            None => "",
         }
     }
-    None
-}
 
-/// Whether an option is given.
-pub fn is_given(words: &[String], name: &str, pieces: &[Piece]) -> bool
-    requires { StandIn words.now pieces.now }
-    ensures { result ≡ is_given (texts words.now) name.now pieces.now }
-{
-    place_of(words, name, pieces).is_some()
-}
-
-/// The first value of an option, and an empty one if it is not given.
-pub fn text_of<'a>(words: &'a [String], name: &str, pieces: &[Piece]) -> &'a str
-    requires { StandIn words.now pieces.now }
-    ensures { result.now ≡ text_given (texts words.now) name.now pieces.now }
-{
-    match place_of(words, name, pieces) {
-        Some(at) => word(words, at + 1),
-        None => "",
+    /// The first values of all options of a name, in the order of the words.
+    pub(crate) fn texts_of(&self, alloc: Global, name: &str) -> Result<Vec<String>, AllocError>
+        ensures { IfOk result (λ found. texts found.items ≡ texts_of
+            (texts self.now.words.now) name.now self.now.pieces.now) }
+    {
+        let mut found = Vec::new(alloc);
+        for piece in self.pieces {
+            if word(self.words, piece.at) == name {
+                push_word(alloc, &mut found, self.words, piece.at + 1)?;
+            }
+        }
+        Ok(found)
     }
-}
 
-/// The first values of all options of a name, in the order of the words.
-pub fn texts_of(
-    alloc: Global,
-    words: &[String],
-    name: &str,
-    pieces: &[Piece],
-) -> Result<Vec<String>, AllocError>
-    requires { StandIn words.now pieces.now }
-    ensures { IfOk result (λ found. texts found.items ≡ texts_of (texts words.now) name.now pieces.now) }
-{
-    let mut found = Vec::new(alloc);
-    for piece in pieces {
-        if word(words, piece.at) == name {
-            push_word(alloc, &mut found, words, piece.at + 1)?;
+    /// Whether a text is the first value of an option of a name.
+    pub(crate) fn is_value(&self, name: &str, text: &str) -> bool
+        ensures { result ≡ list_any (bytes_eq text.now) (texts_of
+            (texts self.now.words.now) name.now self.now.pieces.now) }
+    {
+        for piece in self.pieces {
+            if word(self.words, piece.at) == name && text == word(self.words, piece.at + 1) {
+                return true;
+            }
+        }
+        false
+    }
+
+    /// The number that an option says, or a default if it is not given.
+    pub(crate) fn number_of(&self, flag: Flag, default: u32) -> u32
+        ensures { result ≡ number_given (texts self.now.words.now) flag default self.now.pieces.now }
+    {
+        number_said(flag, default, self.text_of(flag.name()))
+    }
+
+    /// The place of the first record that is taken.
+    pub(crate) fn start_of(&self) -> u32
+        ensures { result ≡ start_of (texts self.now.words.now) self.now.pieces.now }
+    {
+        self.number_of(Flag::StartAtPoint, 0)
+    }
+
+    /// The place of the first record after it that is not taken.
+    pub(crate) fn stop_of(&self) -> u32
+        ensures { result ≡ stop_given (texts self.now.words.now) self.now.pieces.now }
+    {
+        self.number_of(Flag::StopAtPoint, u32::MAX)
+    }
+
+    /// The side of a cell, if records are to be thinned.
+    pub(crate) fn step_of(&self) -> Option<u32>
+        ensures { result ≡ step_of (texts self.now.words.now) self.now.pieces.now }
+    {
+        if self.is_given("-thin_raw") {
+            Some(self.number_of(Flag::ThinRaw, 1))
+        } else {
+            None
         }
     }
-    Ok(found)
-}
 
-/// Whether a text is the first value of an option of a name.
-pub fn is_value(words: &[String], name: &str, pieces: &[Piece], text: &str) -> bool
-    requires { StandIn words.now pieces.now }
-    ensures { result ≡ list_any (bytes_eq text.now) (texts_of (texts words.now) name.now pieces.now) }
-{
-    for piece in pieces {
-        if word(words, piece.at) == name && text == word(words, piece.at + 1) {
-            return true;
+    /// Which record of a cell stays.
+    pub(crate) fn pick_of(&self) -> Pick
+        ensures { result ≡ pick_of (texts self.now.words.now) self.now.pieces.now }
+    {
+        if self.is_given("-lowest") {
+            Pick::Lowest
+        } else if self.is_given("-highest") {
+            Pick::Highest
+        } else {
+            Pick::First
         }
     }
-    false
-}
 
-/// The number that an option says, or a default if it is not given.
-pub fn number_of(words: &[String], flag: Flag, default: u32, pieces: &[Piece]) -> u32
-    requires { StandIn words.now pieces.now }
-    ensures { result ≡ number_given (texts words.now) flag default pieces.now }
-{
-    number_said(flag, default, text_of(words, flag.name(), pieces))
+    /// The index of an option that says which record of a cell stays, if there are no cells.
+    pub(crate) fn pick_alone(&self) -> Option<usize>
+        ensures { result ≡ pick_alone (texts self.now.words.now) self.now.pieces.now }
+    {
+        if self.is_given("-thin_raw") {
+            return None;
+        }
+        let lowest = self.place_of("-lowest");
+        if lowest.is_some() {
+            return lowest;
+        }
+        self.place_of("-highest")
+    }
+
+    /// The number of records of a chunk.
+    pub(crate) fn chunk_of(&self) -> u32
+        ensures { result ≡ chunk_given (texts self.now.words.now) self.now.pieces.now }
+    {
+        self.number_of(Flag::ChunkSize, 50_000)
+    }
+
+    /// The number of workers.
+    pub(crate) fn workers_of(&self) -> u32
+        ensures { result ≡ workers_of (texts self.now.words.now) self.now.pieces.now }
+    {
+        self.number_of(Flag::Cores, 1)
+    }
+
+    /// The point data format.
+    pub(crate) fn format_of(&self) -> u8
+        ensures { result ≡ format_given (texts self.now.words.now) self.now.pieces.now }
+    {
+        self.number_of(Flag::Format, 0) as u8
+    }
+
+    /// The number of extra bytes of a record.
+    pub(crate) fn extra_of(&self) -> u16
+        ensures { result ≡ extra_given (texts self.now.words.now) self.now.pieces.now }
+    {
+        self.number_of(Flag::Extra, 0) as u16
+    }
+
+    /// The rule by which a file is split.
+    pub(crate) fn rule_of(&self) -> Rule
+        ensures { result ≡ rule_of (texts self.now.words.now) self.now.pieces.now }
+    {
+        if self.is_given("-by_classification") {
+            Rule::Class
+        } else if self.is_given("-by_flightline") {
+            Rule::Source
+        } else if self.is_given("-by_return") {
+            Rule::Return
+        } else {
+            Rule::Every(self.number_of(Flag::Split, 1))
+        }
+    }
 }
 
 /// The number that a value of an option is, or a default if it is none.
-pub fn number_said(flag: Flag, default: u32, word: &str) -> u32
+pub(crate) fn number_said(flag: Flag, default: u32, word: &str) -> u32
     ensures { result ≡ number_said flag default word.now }
 {
     let Values::Number(low, high) = flag.values() else {
         return default;
     };
     number_in(word, low, high).unwrap_or(default)
-}
-
-/// The place of the first record that is taken.
-pub fn start_of(words: &[String], pieces: &[Piece]) -> u32
-    requires { StandIn words.now pieces.now }
-    ensures { result ≡ start_of (texts words.now) pieces.now }
-{
-    number_of(words, Flag::StartAtPoint, 0, pieces)
-}
-
-/// The place of the first record after it that is not taken.
-pub fn stop_of(words: &[String], pieces: &[Piece]) -> u32
-    requires { StandIn words.now pieces.now }
-    ensures { result ≡ stop_given (texts words.now) pieces.now }
-{
-    number_of(words, Flag::StopAtPoint, u32::MAX, pieces)
-}
-
-/// The side of a cell, if records are to be thinned.
-pub fn step_of(words: &[String], pieces: &[Piece]) -> Option<u32>
-    requires { StandIn words.now pieces.now }
-    ensures { result ≡ step_of (texts words.now) pieces.now }
-{
-    if is_given(words, "-thin_raw", pieces) {
-        Some(number_of(words, Flag::ThinRaw, 1, pieces))
-    } else {
-        None
-    }
-}
-
-/// Which record of a cell stays.
-pub fn pick_of(words: &[String], pieces: &[Piece]) -> Pick
-    requires { StandIn words.now pieces.now }
-    ensures { result ≡ pick_of (texts words.now) pieces.now }
-{
-    if is_given(words, "-lowest", pieces) {
-        Pick::Lowest
-    } else if is_given(words, "-highest", pieces) {
-        Pick::Highest
-    } else {
-        Pick::First
-    }
-}
-
-/// The index of an option that says which record of a cell stays, if there are no cells.
-pub fn pick_alone(words: &[String], pieces: &[Piece]) -> Option<usize>
-    requires { StandIn words.now pieces.now }
-    ensures { result ≡ pick_alone (texts words.now) pieces.now }
-{
-    if is_given(words, "-thin_raw", pieces) {
-        return None;
-    }
-    let lowest = place_of(words, "-lowest", pieces);
-    if lowest.is_some() {
-        return lowest;
-    }
-    place_of(words, "-highest", pieces)
-}
-
-/// The number of records of a chunk.
-pub fn chunk_of(words: &[String], pieces: &[Piece]) -> u32
-    requires { StandIn words.now pieces.now }
-    ensures { result ≡ chunk_given (texts words.now) pieces.now }
-{
-    number_of(words, Flag::ChunkSize, 50_000, pieces)
-}
-
-/// The number of workers.
-pub fn workers_of(words: &[String], pieces: &[Piece]) -> u32
-    requires { StandIn words.now pieces.now }
-    ensures { result ≡ workers_of (texts words.now) pieces.now }
-{
-    number_of(words, Flag::Cores, 1, pieces)
-}
-
-/// The point data format.
-pub fn format_of(words: &[String], pieces: &[Piece]) -> u8
-    requires { StandIn words.now pieces.now }
-    ensures { result ≡ format_given (texts words.now) pieces.now }
-{
-    number_of(words, Flag::Format, 0, pieces) as u8
-}
-
-/// The number of extra bytes of a record.
-pub fn extra_of(words: &[String], pieces: &[Piece]) -> u16
-    requires { StandIn words.now pieces.now }
-    ensures { result ≡ extra_given (texts words.now) pieces.now }
-{
-    number_of(words, Flag::Extra, 0, pieces) as u16
-}
-
-/// The rule by which a file is split.
-pub fn rule_of(words: &[String], pieces: &[Piece]) -> Rule
-    requires { StandIn words.now pieces.now }
-    ensures { result ≡ rule_of (texts words.now) pieces.now }
-{
-    if is_given(words, "-by_classification", pieces) {
-        Rule::Class
-    } else if is_given(words, "-by_flightline", pieces) {
-        Rule::Source
-    } else if is_given(words, "-by_return", pieces) {
-        Rule::Return
-    } else {
-        Rule::Every(number_of(words, Flag::Split, 1, pieces))
-    }
 }

@@ -155,7 +155,7 @@ impl Tool {
     ghost use Rattle.las_words.specs.Table.{options_of, tool_named, flag_named};
 
     /// The command of this name.
-    pub fn named(word: &str) -> Option<Tool>
+    pub(crate) fn named(word: &str) -> Option<Tool>
         ensures { result ≡ tool_named word.now }
     {
         match word {
@@ -184,7 +184,7 @@ impl Tool {
     }
 
     /// The option of the command that has this name.
-    pub fn flag(self, word: &str) -> Option<Flag>
+    pub(crate) fn flag(self, word: &str) -> Option<Flag>
         ensures { result ≡ flag_named self word.now }
     {
         for flag in self.options() {
@@ -200,7 +200,7 @@ impl Flag {
     ghost use Rattle.las_words.specs.Table.{row_of};
 
     /// The word of the option.
-    pub fn name(self) -> &'static str
+    pub(crate) fn name(self) -> &'static str
         ensures { result.now ≡ (row_of self).name }
     {
         match self {
@@ -247,7 +247,7 @@ impl Flag {
     }
 
     /// The values that follow the option.
-    pub fn values(self) -> Values
+    pub(crate) fn values(self) -> Values
         ensures { result ≡ (row_of self).values }
     {
         match self {
@@ -280,7 +280,7 @@ impl Flag {
 
     /// Whether an option of the given name is a rival of this one. Mostly that is this option itself, which is given
     /// once.
-    pub fn is_rival(self, name: &str) -> bool
+    pub(crate) fn is_rival(self, name: &str) -> bool
         ensures { result ≡ list_any (bytes_eq name.now) (row_of self).rivals }
     {
         match self {
@@ -306,7 +306,7 @@ impl Flag {
     }
 
     /// How many of its rivals may stand before this option.
-    pub fn before(self) -> usize
+    pub(crate) fn before(self) -> usize
         ensures { result ≡ (row_of self).before }
     {
         match self {

@@ -5,42 +5,38 @@ ghost use Rattle.std.specs.List.{list_any};
 ghost use Rattle.std.specs.Str.{bytes_eq};
 ghost use Rattle.las_words.specs.Texts.{texts};
 ghost use Rattle.las_words.specs.Tallies.{tallies_of, tally_in};
-ghost use Rattle.las_words.specs.Pieces.{StandIn};
 
-use crate::pieces::Piece;
+use crate::options::Options;
 use crate::table::Flag;
 use crate::texts::{push_word, word};
 use std::alloc::{AllocError, Global};
 
-/// The tallies that are asked for, in the order of the words.
-pub fn tallies_of(
-    alloc: Global,
-    words: &[String],
-    pieces: &[Piece],
-) -> Result<Vec<String>, AllocError>
-    requires { StandIn words.now pieces.now }
-    ensures { IfOk result (λ tallies. texts tallies.items ≡ tallies_of (texts words.now) pieces.now) }
-{
-    let mut tallies = Vec::new(alloc);
-    for piece in pieces {
-        if is_tally(piece.flag) {
-            push_word(alloc, &mut tallies, words, piece.at + 1)?;
+impl Options<'_> {
+    /// The tallies that are asked for, in the order of the words.
+    pub(crate) fn tallies_of(&self, alloc: Global) -> Result<Vec<String>, AllocError>
+        ensures { IfOk result (λ tallies. texts tallies.items ≡ tallies_of
+            (texts self.now.words.now) self.now.pieces.now) }
+    {
+        let mut tallies = Vec::new(alloc);
+        for piece in self.pieces {
+            if is_tally(piece.flag) {
+                push_word(alloc, &mut tallies, self.words, piece.at + 1)?;
+            }
         }
+        Ok(tallies)
     }
-    Ok(tallies)
-}
 
-/// Whether a tally of this name is asked for.
-pub fn is_tallied(words: &[String], pieces: &[Piece], name: &str) -> bool
-    requires { StandIn words.now pieces.now }
-    ensures { result ≡ list_any (bytes_eq name.now) (tallies_of (texts words.now) pieces.now) }
-{
-    for piece in pieces {
-        if is_tally(piece.flag) && name == word(words, piece.at + 1) {
-            return true;
+    /// Whether a tally of this name is asked for.
+    pub(crate) fn is_tallied(&self, name: &str) -> bool
+        ensures { result ≡ list_any (bytes_eq name.now) (tallies_of (texts self.now.words.now) self.now.pieces.now) }
+    {
+        for piece in self.pieces {
+            if is_tally(piece.flag) && name == word(self.words, piece.at + 1) {
+                return true;
+            }
         }
+        false
     }
-    false
 }
 
 // Whether a word is the option that names a tally.

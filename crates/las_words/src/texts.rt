@@ -6,7 +6,7 @@ ghost use Rattle.las_words.specs.Texts.{texts, word_at, is_packed_name};
 use std::alloc::{AllocError, Global};
 
 /// The word at an index, and an empty one if it is missing.
-pub fn word(words: &[String], index: usize) -> &str
+pub(crate) fn word(words: &[String], index: usize) -> &str
     ensures { result.now ≡ word_at (texts words.now) index }
 {
     match words.get(index) {
@@ -16,7 +16,7 @@ pub fn word(words: &[String], index: usize) -> &str
 }
 
 /// Adds the word at an index to some, and an empty one if it is missing.
-pub fn push_word(
+pub(crate) fn push_word(
     alloc: Global,
     some: &mut Vec<String>,
     words: &[String],
@@ -29,7 +29,7 @@ pub fn push_word(
 }
 
 /// Whether LAStools would pack a file of this name.
-pub fn is_packed_name(name: &str) -> bool
+pub(crate) fn is_packed_name(name: &str) -> bool
     ensures { result ≡ is_packed_name name.now }
 {
     let name = name.as_bytes();

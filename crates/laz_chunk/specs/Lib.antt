@@ -6,3 +6,4 @@ pub mod Layouts
 pub mod Records
 pub mod Stands
 pub mod Chunks
+pub mod Coded

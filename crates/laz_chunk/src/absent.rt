@@ -1,19 +1,12 @@
 //! The parts of a record that may be absent, as a loop over records sees them: each item by its own type.
-ghost use Rattle.std.specs.Prelude.{◌≡◌, ◌+◌, ◌≤◌, ◌++◌, ◌∷◌, List, ℕ, length, false, MatchResult, OnOk};
+ghost use Rattle.std.specs.Prelude.{◌≡◌, ◌+◌, ◌≤◌, length, false, OnOk};
 ghost use Rattle.std.specs.Prelude.{Option, Some, None};
-ghost use Rattle.laz_range.specs.Coding.{Codes};
-ghost use Rattle.laz_range.specs.Decoding.{Refuses};
-ghost use Rattle.laz_integer.specs.Events.{Event, cuts_after};
-ghost use Rattle.laz_integer.specs.Spelled.{spelled_cuts};
 ghost use Rattle.laz_gpstime.specs.Sequences as sequences;
-ghost use Rattle.laz_gpstime.specs.Items.{point_with};
 ghost use Rattle.laz_gpstime.specs.Slots.{TimeState};
-ghost use Rattle.laz_rgb.specs.declared.colour.Colour.{Colour};
 ghost use Rattle.laz_rgb.specs.Items.{RgbState};
 ghost use Rattle.laz_chunk.specs.Layouts.{colour_length, time_length};
-ghost use Rattle.laz_chunk.specs.Records.{SpellsColourIf, SpellsTimeIf, colour_events_if, colour_in, time_events_if};
-ghost use Rattle.laz_chunk.specs.Records.{time_in};
-ghost use Rattle.laz_chunk.specs.Stands.{ColoursStand, ReadsPart, TimesStand, has};
+ghost use Rattle.laz_chunk.specs.Stands.{has, CodesColourIf, CodesTimeIf, ReadsColourIf, ReadsTimeIf};
+ghost use Rattle.laz_chunk.specs.Stands.{StandsWithColourIf, StandsWithTimeIf};
 
 use laz_gpstime::GpsTime;
 use laz_range::{Bad, Decoder, Encoder};
@@ -38,13 +31,8 @@ pub trait TimePart: Drop {
         requires left { 21 ≤ encoder.old.left }
         ensures used { encoder.old.left ≤ encoder.new.left + 21 }
         ensures has { has (item self.new) ≡ has (item self.old) }
-        ensures events { (earlier : List Event) (points : List sequences.Point) → TimesStand earlier points (item self.old)
-            → Codes encoder.old encoder.new (cuts_after earlier
-            (time_events_if (has (item self.old)) points (time_in (has (item self.old)) part.now))) }
-        ensures stands { (earlier : List Event) (points : List sequences.Point) → TimesStand earlier points (item self.old)
-            → let time = time_in (has (item self.old)) part.now
-            in let events = time_events_if (has (item self.old)) points time
-            in TimesStand (earlier ++ events) (point_with time events ∷ points) (item self.new) };
+        ensures events { CodesTimeIf (item self.old) part.now encoder.old encoder.new }
+        ensures stands { StandsWithTimeIf (item self.old) part.now (item self.new) };
 
     // Reads its part of a record. Each `M` has a copy of the code of its own.
     fn take_time<M>(&mut self, decoder: &mut Decoder<'_>, part: &mut [u8]) -> Result<(), Bad>
@@ -53,15 +41,7 @@ pub trait TimePart: Drop {
         ensures part { length part.new ≡ length part.old }
         ensures has { has (item self.new) ≡ has (item self.old) }
         ensures good { OnOk result (decoder.new.failed ≡ false) }
-        ensures reads { (earlier : List Event) (points : List sequences.Point) → TimesStand earlier points (item self.old)
-            → decoder.old.taken ≤ length decoder.old.bytes
-            → let time = time_in (has (item self.old)) part.new
-            in MatchResult result
-            (λ _. ReadsPart (λ x. SpellsTimeIf (has (item self.old)) points x.0 x.1) earlier time
-            decoder.old decoder.new
-            (λ events. TimesStand (earlier ++ events) (point_with time events ∷ points) (item self.new)))
-            (λ _. Refuses {X = List Event × ℕ} (λ x. SpellsTimeIf (has (item self.old)) points x.0 x.1)
-            (spelled_cuts earlier) decoder.old decoder.new) };
+        ensures reads { ReadsTimeIf result (item self.old) part.new decoder.old decoder.new (item self.new) };
 }
 
 impl TimePart for GpsTime {
@@ -115,13 +95,8 @@ pub trait ColourPart: Drop {
         requires left { 21 ≤ encoder.old.left }
         ensures used { encoder.old.left ≤ encoder.new.left + 21 }
         ensures has { has (item self.new) ≡ has (item self.old) }
-        ensures events { (earlier : List Event) (colours : List Colour) → ColoursStand earlier colours (item self.old)
-            → Codes encoder.old encoder.new (cuts_after earlier
-            (colour_events_if (has (item self.old)) colours (colour_in (has (item self.old)) part.now))) }
-        ensures stands { (earlier : List Event) (colours : List Colour) → ColoursStand earlier colours (item self.old)
-            → let colour = colour_in (has (item self.old)) part.now
-            in let events = colour_events_if (has (item self.old)) colours colour
-            in ColoursStand (earlier ++ events) (colour ∷ colours) (item self.new) };
+        ensures events { CodesColourIf (item self.old) part.now encoder.old encoder.new }
+        ensures stands { StandsWithColourIf (item self.old) part.now (item self.new) };
 
     // Reads its part of a record. Each `M` has a copy of the code of its own.
     fn take_colour<M>(&mut self, decoder: &mut Decoder<'_>, part: &mut [u8]) -> Result<(), Bad>
@@ -130,15 +105,7 @@ pub trait ColourPart: Drop {
         ensures part { length part.new ≡ length part.old }
         ensures has { has (item self.new) ≡ has (item self.old) }
         ensures good { OnOk result (decoder.new.failed ≡ false) }
-        ensures reads { (earlier : List Event) (colours : List Colour) → ColoursStand earlier colours (item self.old)
-            → decoder.old.taken ≤ length decoder.old.bytes
-            → let colour = colour_in (has (item self.old)) part.new
-            in MatchResult result
-            (λ _. ReadsPart (λ x. SpellsColourIf (has (item self.old)) colours x.0 x.1) earlier colour
-            decoder.old decoder.new
-            (λ events. ColoursStand (earlier ++ events) (colour ∷ colours) (item self.new)))
-            (λ _. Refuses {X = List Event × Colour} (λ x. SpellsColourIf (has (item self.old)) colours x.0 x.1)
-            (spelled_cuts earlier) decoder.old decoder.new) };
+        ensures reads { ReadsColourIf result (item self.old) part.new decoder.old decoder.new (item self.new) };
 }
 
 impl ColourPart for Rgb {

@@ -1,15 +1,10 @@
 //! The parts of a record that may be absent.
-ghost use Rattle.std.specs.Prelude.{◌≡◌, ◌+◌, ◌*◌, ◌≤◌, ◌++◌, [], ◌∷◌, List, ℕ, length, false, MatchResult, OnOk};
-ghost use Rattle.laz_range.specs.Coding.{Codes};
-ghost use Rattle.laz_range.specs.Decoding.{Refuses};
-ghost use Rattle.laz_integer.specs.Events.{Event, cuts_after};
-ghost use Rattle.laz_integer.specs.Spelled.{spelled_cuts};
+ghost use Rattle.std.specs.Prelude.{◌≡◌, ◌+◌, ◌*◌, ◌≤◌, [], ◌∷◌, length, false, OnOk};
 ghost use Rattle.laz_gpstime.specs.Items.{point_with};
-ghost use Rattle.laz_rgb.specs.Extra.{SpellsExtra, extra_events};
-ghost use Rattle.laz_rgb.specs.Items.{latest_extra};
 ghost use Rattle.laz_chunk.specs.Layouts.{colour_length, time_length};
 ghost use Rattle.laz_chunk.specs.Records.{colour_in, time_in};
-ghost use Rattle.laz_chunk.specs.Stands.{ColoursStand, ExtrasStand, ReadsPart, TimesStand, extra_length, has};
+ghost use Rattle.laz_chunk.specs.Stands.{ColoursStand, ExtrasStand, TimesStand, extra_length, has, CodesExtraIf};
+ghost use Rattle.laz_chunk.specs.Stands.{ReadsExtraIf, StandsWithExtraIf};
 
 use laz_gpstime::GpsTime;
 use laz_range::{Bad, Decoder, Encoder};
@@ -82,10 +77,8 @@ pub(crate) fn code_extra(encoder: &mut Encoder, item: &mut Option<Bytes>, part: 
     ensures used { encoder.old.left ≤ encoder.new.left + 3 * extra_length item.old }
     ensures extra { extra_length item.new ≡ extra_length item.old }
     ensures has { has item.new ≡ has item.old }
-    ensures events { (earlier : List Event) (extras : List (List ℕ)) → ExtrasStand earlier extras item.old
-        → Codes encoder.old encoder.new (cuts_after earlier (extra_events (latest_extra extras) part.now)) }
-    ensures stands { (earlier : List Event) (extras : List (List ℕ)) → ExtrasStand earlier extras item.old
-        → ExtrasStand (earlier ++ extra_events (latest_extra extras) part.now) (part.now ∷ extras) item.new }
+    ensures events { CodesExtraIf item.old part.now encoder.old encoder.new }
+    ensures stands { StandsWithExtraIf item.old part.now item.new }
 {
     match item {
         Some(bytes) => bytes.code(encoder, part),
@@ -106,13 +99,7 @@ pub(crate) fn read_extra(
     ensures extra { extra_length item.new ≡ extra_length item.old }
     ensures has { has item.new ≡ has item.old }
     ensures good { OnOk result (decoder.new.failed ≡ false) }
-    ensures reads { (earlier : List Event) (extras : List (List ℕ)) → ExtrasStand earlier extras item.old
-        → decoder.old.taken ≤ length decoder.old.bytes
-        → MatchResult result
-        (λ _. ReadsPart (λ x. SpellsExtra (latest_extra extras) x.0 x.1) earlier part.new decoder.old decoder.new
-        (λ events. ExtrasStand (earlier ++ events) (part.new ∷ extras) item.new))
-        (λ _. Refuses {X = List Event × List ℕ} (λ x. SpellsExtra (latest_extra extras) x.0 x.1)
-        (spelled_cuts earlier) decoder.old decoder.new) }
+    ensures reads { ReadsExtraIf result item.old part.new decoder.old decoder.new item.new }
 {
     match item {
         Some(bytes) => bytes.read(decoder, part),

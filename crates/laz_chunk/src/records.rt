@@ -1,14 +1,11 @@
 //! The records of a chunk, by their items.
-ghost use Rattle.std.specs.Prelude.{◌≡◌, ◌+◌, ◌*◌, ◌≤◌, ◌++◌, ◌∷◌, List, ℕ, length, false, MatchResult, OnOk};
-ghost use Rattle.laz_range.specs.Coding.{Codes, CodesInSteps};
-ghost use Rattle.laz_range.specs.Choice.{AreAsked, all_cuts};
-ghost use Rattle.laz_range.specs.Decoding.{Refuses, Takes};
-ghost use Rattle.laz_integer.specs.Events.{Event, cuts_after};
-ghost use Rattle.laz_chunk.specs.Layouts.{Layout, most_events, record_length};
-ghost use Rattle.laz_chunk.specs.Records.{ChunkPoint, Record, SpellsRecord, record_at, record_events, records_in};
-ghost use Rattle.laz_chunk.specs.Stands.{AreChunkPoints, ItemsStand, ReadsPart, StandSometime, items_of, layout_in};
-ghost use Rattle.laz_chunk.specs.Chunks.{History, IsSpelled, Spelling, grown, initial_history, record_cuts};
-ghost use Rattle.laz_chunk.specs.Chunks.{spelled_records, writing, written};
+ghost use Rattle.std.specs.Prelude.{◌≡◌, ◌+◌, ◌*◌, ◌≤◌, length, false, OnOk};
+ghost use Rattle.laz_chunk.specs.Layouts.{most_events, record_length};
+ghost use Rattle.laz_chunk.specs.Records.{record_at};
+ghost use Rattle.laz_chunk.specs.Stands.{ItemsStand, StandSometime, items_of, layout_in};
+ghost use Rattle.laz_chunk.specs.Chunks.{initial_history};
+ghost use Rattle.laz_chunk.specs.Coded.{CodesRecord, CodesRecords, KeepLayout, ReadsRecord, ReadsRecords};
+ghost use Rattle.laz_chunk.specs.Coded.{StandWithRecord};
 
 use crate::absent::{Absent, ColourPart, TimePart};
 use crate::items::Items;
@@ -49,18 +46,14 @@ fn code_record<T: TimePart, C: ColourPart>(
         in length bytes.now ≡ record_length (layout_in items) }
     requires left { let items = items_of point10.old (T.item times.old) (C.item colours.old) extra.old
         in 3 * most_events (layout_in items) ≤ encoder.old.left }
-    ensures layout { let items = items_of point10.old (T.item times.old) (C.item colours.old) extra.old
-        in layout_in (items_of point10.new (T.item times.new) (C.item colours.new) extra.new) ≡ layout_in items }
+    ensures layout { KeepLayout (items_of point10.old (T.item times.old) (C.item colours.old) extra.old)
+        (items_of point10.new (T.item times.new) (C.item colours.new) extra.new) }
     ensures used { let items = items_of point10.old (T.item times.old) (C.item colours.old) extra.old
         in encoder.old.left ≤ encoder.new.left + 3 * most_events (layout_in items) }
-    ensures codes { let items = items_of point10.old (T.item times.old) (C.item colours.old) extra.old
-        in (h : History) → AreChunkPoints (layout_in items).extra h.1 → ItemsStand h.0 h.1 items
-        → Codes encoder.old encoder.new
-        (record_cuts h (writing (layout_in items) h (record_at (layout_in items) bytes.now))) }
-    ensures stands { let items = items_of point10.old (T.item times.old) (C.item colours.old) extra.old
-        in (h : History) → AreChunkPoints (layout_in items).extra h.1 → ItemsStand h.0 h.1 items
-        → let after = grown h (writing (layout_in items) h (record_at (layout_in items) bytes.now)) in
-        ItemsStand after.0 after.1 (items_of point10.new (T.item times.new) (C.item colours.new) extra.new) }
+    ensures codes { CodesRecord (items_of point10.old (T.item times.old) (C.item colours.old) extra.old)
+        bytes.now encoder.old encoder.new }
+    ensures stands { StandWithRecord (items_of point10.old (T.item times.old) (C.item colours.old) extra.old) bytes.now
+        (items_of point10.new (T.item times.new) (C.item colours.new) extra.new) }
 {
     let (point, parts) = bytes.split_at(20);
     let (time, others) = parts.split_at(times.time_length());
@@ -85,17 +78,12 @@ fn read_record<T: TimePart, C: ColourPart>(
         in length bytes.old ≡ record_length (layout_in items) }
     requires good { decoder.old.failed ≡ false }
     ensures whole { length bytes.new ≡ length bytes.old }
-    ensures layout { let items = items_of point10.old (T.item times.old) (C.item colours.old) extra.old
-        in layout_in (items_of point10.new (T.item times.new) (C.item colours.new) extra.new) ≡ layout_in items }
+    ensures layout { KeepLayout (items_of point10.old (T.item times.old) (C.item colours.old) extra.old)
+        (items_of point10.new (T.item times.new) (C.item colours.new) extra.new) }
     ensures good { OnOk result (decoder.new.failed ≡ false) }
-    ensures reads { let items = items_of point10.old (T.item times.old) (C.item colours.old) extra.old
-        in (h : History) → ItemsStand h.0 h.1 items
-        → let l = layout_in items in let now = record_at l bytes.new
-        in MatchResult result
-        (λ _. ReadsPart (IsSpelled l h) h.0 now decoder.old decoder.new
-        (λ events. let after = grown h (events, now)
-        in ItemsStand after.0 after.1 (items_of point10.new (T.item times.new) (C.item colours.new) extra.new)))
-        (λ _. Refuses (IsSpelled l h) (record_cuts h) decoder.old decoder.new) }
+    ensures reads { ReadsRecord result (items_of point10.old (T.item times.old) (C.item colours.old) extra.old)
+        bytes.new decoder.old decoder.new
+        (items_of point10.new (T.item times.new) (C.item colours.new) extra.new) }
 {
     let (point, parts) = bytes.split_at_mut(20);
     let (time, others) = parts.split_at_mut(times.time_length());
@@ -142,13 +130,10 @@ fn put_all<T: TimePart, C: ColourPart>(
     requires most { let items = items_of point10.old (T.item times.old) (C.item colours.old) extra.old
         in packed.most ≡ 3 * most_events (layout_in items) }
     requires stands { StandSometime (items_of point10.old (T.item times.old) (C.item colours.old) extra.old) }
-    ensures layout { let items = items_of point10.old (T.item times.old) (C.item colours.old) extra.old
-        in layout_in (items_of point10.new (T.item times.new) (C.item colours.new) extra.new) ≡ layout_in items }
-    ensures codes { let items = items_of point10.old (T.item times.old) (C.item colours.old) extra.old
-        in (h : History) → AreChunkPoints (layout_in items).extra h.1 → ItemsStand h.0 h.1 items
-        → let l = layout_in items in
-        CodesInSteps encoder.old encoder.new
-        (all_cuts grown record_cuts h (written l h (records_in l packed.count records.now))) }
+    ensures layout { KeepLayout (items_of point10.old (T.item times.old) (C.item colours.old) extra.old)
+        (items_of point10.new (T.item times.new) (C.item colours.new) extra.new) }
+    ensures codes { CodesRecords (items_of point10.old (T.item times.old) (C.item colours.old) extra.old)
+        packed.count records.now encoder.old encoder.new }
 {
     for i in 0..packed.count {
         encoder.keep_left(packed.most);
@@ -182,17 +167,11 @@ fn take_all<T: TimePart, C: ColourPart>(
     requires good { decoder.old.failed ≡ false }
     requires within { decoder.old.taken ≤ length decoder.old.bytes }
     ensures records { length records.new ≡ length records.old }
-    ensures layout { let items = items_of point10.old (T.item times.old) (C.item colours.old) extra.old
-        in layout_in (items_of point10.new (T.item times.new) (C.item colours.new) extra.new) ≡ layout_in items }
+    ensures layout { KeepLayout (items_of point10.old (T.item times.old) (C.item colours.old) extra.old)
+        (items_of point10.new (T.item times.new) (C.item colours.new) extra.new) }
     ensures good { OnOk result (decoder.new.failed ≡ false) }
-    ensures reads { let items = items_of point10.old (T.item times.old) (C.item colours.old) extra.old
-        in (h : History) → ItemsStand h.0 h.1 items
-        → let l = layout_in items
-        in MatchResult result
-        (λ _. (xs : List Spelling)
-        × Takes (AreAsked grown (IsSpelled l) h extent.count) (all_cuts grown record_cuts h) decoder.old decoder.new xs
-        × (spelled_records xs ≡ records_in l extent.count records.new))
-        (λ _. Refuses (AreAsked grown (IsSpelled l) h extent.count) (all_cuts grown record_cuts h) decoder.old decoder.new) }
+    ensures reads { ReadsRecords result (items_of point10.old (T.item times.old) (C.item colours.old) extra.old)
+        extent.count records.new decoder.old decoder.new }
 {
     for i in 0..extent.count {
         let at = i * extent.size;
@@ -224,10 +203,7 @@ pub(crate) fn put_records(
     requires most { most ≡ 3 * most_events (layout_in items.old) }
     requires stands { StandSometime items.old }
     ensures layout { layout_in items.new ≡ layout_in items.old }
-    ensures codes { (h : History) → AreChunkPoints (layout_in items.old).extra h.1 → ItemsStand h.0 h.1 items.old
-        → let l = layout_in items.old in
-        CodesInSteps encoder.old encoder.new
-        (all_cuts grown record_cuts h (written l h (records_in l count records.now))) }
+    ensures codes { CodesRecords items.old count records.now encoder.old encoder.new }
 {
     let (point10, extra) = (&mut items.point10, &mut items.extra);
     let mut none = Absent;
@@ -268,13 +244,7 @@ pub(crate) fn take_records(
     ensures records { length records.new ≡ length records.old }
     ensures layout { layout_in items.new ≡ layout_in items.old }
     ensures good { OnOk result (decoder.new.failed ≡ false) }
-    ensures reads { (h : History) → ItemsStand h.0 h.1 items.old
-        → let l = layout_in items.old
-        in MatchResult result
-        (λ _. (xs : List Spelling)
-        × Takes (AreAsked grown (IsSpelled l) h count) (all_cuts grown record_cuts h) decoder.old decoder.new xs
-        × (spelled_records xs ≡ records_in l count records.new))
-        (λ _. Refuses (AreAsked grown (IsSpelled l) h count) (all_cuts grown record_cuts h) decoder.old decoder.new) }
+    ensures reads { ReadsRecords result items.old count records.new decoder.old decoder.new }
 {
     let (point10, extra) = (&mut items.point10, &mut items.extra);
     let mut none = Absent;

@@ -7,7 +7,7 @@ use Rattle.std.specs.Option.{option_map}
 use Rattle.las_header.specs.declared.refusal.Refusal.{Refusal}
 use Rattle.las_header.specs.declared.refusal.Refusal.TheVariants.{BadChunk}
 use Rattle.las_header.specs.Fields.{point_offset_of, record_length_of}
-use Rattle.las_header.specs.Plain.{plain_head}
+use Rattle.las_header.specs.Plain.{plain_head, cut_all}
 use Rattle.las_outside.specs.Drafts.{IsUnfinished}
 use Rattle.las_outside.specs.Faults.{Rose}
 use Rattle.las_outside.specs.Files.{FileMap, with_file}
@@ -145,3 +145,11 @@ EndsCopying known was old now reader out bytes Read =
 EndsCopying known was old now reader out bytes Write =
     Rose old.write_faults now.write_faults × LeavesFirst known was now.held reader out bytes
 EndsCopying known was old now reader out bytes Memory = LeavesFirst known was now.held reader out bytes
+
+-- The file of a name is as before, or holds a prefix of a text.
+abbrev pub LeavesPrefix : (was now : Option FileMap) → (name text : List ℕ) → Type 0
+LeavesPrefix was now name text = (now ≡ was) ⊎ ((n : ℕ) × (now ≡ with_file was name (take n text)))
+
+-- the records in some blocks of a reader, each as its bytes
+abbrev pub records_read : ReaderSeen → (blocks : List (List ℕ)) → List (List ℕ)
+records_read reader blocks = cut_all (record_length_of reader.head.bytes) (concat blocks)

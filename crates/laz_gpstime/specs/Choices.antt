@@ -1,11 +1,13 @@
 -- What is read of a time: the symbols, and then a corrector and a low word. Choices of them, their parts, and the state
 -- after them.
 use Rattle.std.specs.Prelude.{◌≡◌, ℕ, ◌+◌, ◌*◌, ◌/◌, ◌<◌, ◌≤◌, ◌==◌, if◌then◌else◌, List, [], ◌∷◌, ◌++◌, MatchBool}
+use Rattle.std.specs.Prelude.{MatchResult, Result}
 use Rattle.std.specs.Int.{w32, cast_signed, cast_unsigned}
 use Rattle.laz_range.specs.Cut.{Cut, raw_cuts}
+use Rattle.laz_range.specs.Decoding.{Decoding, Refuses, Takes, TakesNone}
 use Rattle.laz_models.specs.Bank.{model_at}
 use Rattle.laz_integer.specs.Corrector.{corrected}
-use Rattle.laz_integer.specs.Integer.{IsCorrector, int_cuts, int_next, symbol_cut}
+use Rattle.laz_integer.specs.Integer.{IntState, IsCorrector, int_cuts, int_next, symbol_cut}
 use Rattle.laz_gpstime.specs.Meanings.{meaning}
 use Rattle.laz_gpstime.specs.Spelling.{time_plus}
 use Rattle.laz_gpstime.specs.Slots.{TimeState, after_point, after_switch, difference_of, slot_of, symbols_after}
@@ -137,3 +139,47 @@ abbrev pub choice_time : TimeState → Choice → ℕ
 choice_time st x =
     let after = front_next st (front_of x)
     in rest_time (difference_of after) (slot_of after).time (symbol_of (front_of x)) (rest_of x)
+
+-- ---- what is answered: what is read makes the answer and the state, or none of it begins the rest of the bytes
+
+-- A symbol that is no switch, after a switch that is no part of the answer.
+abbrev pub ReadsFront : {E : Type 0} → Result ℕ E → (old : TimeState) → Decoding → Decoding → (new : TimeState) → Type 0
+ReadsFront result st old new next =
+    MatchResult result
+    (λ s. (i : ℕ) × Takes (IsFront st) (front_cuts st) old new (i, s) × (next ≡ front_next st (i, s)))
+    (λ _. Refuses (IsFront st) (front_cuts st) old new)
+
+-- A word, by its corrector under a context, and the models of integers after it.
+abbrev pub ReadsWordAt : {E : Type 0} → Result ℕ E → IntState → (ctx pred : ℕ) → Decoding → Decoding → IntState → Type 0
+ReadsWordAt result st ctx pred old new next =
+    let cuts : ℕ × ℕ → List Cut = λ y. int_cuts st ctx y.0 y.1 in
+    MatchResult result
+    (λ word. (x : ℕ × ℕ) × Takes (IsCorrector 32) cuts old new x
+    × (word ≡ cast_unsigned w32 (corrected 32 (cast_signed w32 pred) x.0 x.1)) × (next ≡ int_next st ctx x.0 x.1))
+    (λ _. TakesNone (IsCorrector 32) cuts old new)
+
+-- The time that follows a symbol.
+abbrev pub ReadsRest : {E : Type 0} → Result ℕ E → (old : TimeState) → (symbol : ℕ) → Decoding → Decoding →
+    (new : TimeState) → Type 0
+ReadsRest result st s old new next =
+    let d = difference_of st in
+    MatchResult result
+    (λ time. (y : Rest) × Takes (IsRest d s) (rest_cuts st s) old new y
+    × (time ≡ rest_time d (slot_of st).time s y) × (next ≡ rest_next st s y))
+    (λ _. TakesNone (IsRest d s) (rest_cuts st s) old new)
+
+-- A whole time.
+abbrev pub ReadsChoice : {E : Type 0} → Result ℕ E → (old : TimeState) → Decoding → Decoding → (new : TimeState)
+    → Type 0
+ReadsChoice result st old new next =
+    MatchResult result
+    (λ time. (x : Choice) × Takes (IsChoice st) (choice_cuts st) old new x
+    × (time ≡ choice_time st x) × (next ≡ choice_next st x))
+    (λ _. Refuses (IsChoice st) (choice_cuts st) old new)
+
+-- A symbol that is no switch.
+abbrev pub ReadsLastSymbol : {E : Type 0} → Result ℕ E → TimeState → Decoding → Decoding → Type 0
+ReadsLastSymbol result st old new =
+    let no_switch : ℕ → Type 0 = λ s. s ≤ new_symbol (difference_of st) in
+    MatchResult result (λ s. Takes no_switch (time_symbol_cuts st) old new s)
+    (λ _. Refuses no_switch (time_symbol_cuts st) old new)

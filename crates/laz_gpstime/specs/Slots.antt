@@ -1,20 +1,25 @@
 -- What the code keeps of the four sequences: a slot for each, whose values each point replaces.
 use Rattle.std.specs.Prelude.{◌≡◌, ℕ, ◌+◌, ◌%◌, ◌<◌, ◌==◌, if◌then◌else◌, List, [], ◌∷◌, ◌++◌, length, Option, Some}
 use Rattle.std.specs.Prelude.{None, slice_index_or, slice_set}
+use Rattle.laz_range.specs.Coding.{Codes, Coding}
 use Rattle.laz_models.specs.Counting.{Counting, after_symbol}
 use Rattle.laz_models.specs.Bank.{alphabet_sizes, model_at}
-use Rattle.laz_integer.specs.Events.{Event}
+use Rattle.laz_integer.specs.Events.{Event, cuts_after}
 use Rattle.laz_integer.specs.Fields.{BankStands}
 use Rattle.laz_integer.specs.Integer.{IntState, IntStands, IsInts}
 use Rattle.laz_gpstime.specs.Meanings.{Meaning, New, extremes_after, is_new, meaning, sets, time_kind}
 use Rattle.laz_gpstime.specs.Sequences.{Point, difference, extremes, last_time, openings, sequence, time_difference}
-use Rattle.laz_gpstime.specs.Times.{model_of, near_events, near_symbol, new_events, switch_events}
+use Rattle.laz_gpstime.specs.Times.{model_of, near_events, near_symbol, nearest, new_events, switch_events}
 use Rattle.laz_gpstime.specs.declared.sequences.Slot.{Slot}
 use Rattle.laz_gpstime.specs.declared.sequences.Sequences.{Sequences}
 use Rattle.laz_gpstime.specs.declared.limits.TheConstants.{TOTAL}
 
 abbrev pub no_slot : Slot
 no_slot = record { time = 0; difference = 0; extremes = 0 }
+
+-- The slots after the first time of a chunk.
+abbrev pub first_slots : ℕ → List Slot
+first_slots time = record { time = time; difference = 0; extremes = 0 } ∷ no_slot ∷ no_slot ∷ no_slot ∷ []
 
 abbrev pub slot_at : Sequences → ℕ → Slot
 slot_at q s = slice_index_or q.slots s no_slot
@@ -87,6 +92,15 @@ pub record ModelsStand (events : List Event) (st : TimeState) : Type 0 where
   pub symbols : BankStands time_kind events st.symbols
   pub integers : IntStands time_kind events st.integers
 
+-- These events are coded, whatever stream the models stand for.
+abbrev pub CodesHere : TimeState → List Event → Coding → Coding → Type 0
+CodesHere st events old new =
+    (earlier : List Event) → ModelsStand earlier st → Codes old new (cuts_after earlier events)
+
+-- Models that stood for a stream stand for it with these events.
+abbrev pub StandWith : (old : TimeState) → List Event → (new : TimeState) → Type 0
+StandWith old events new = (earlier : List Event) → ModelsStand earlier old → ModelsStand (earlier ++ events) new
+
 -- The models after a symbol of the sequence.
 abbrev pub symbols_after : TimeState → ℕ → List Counting
 symbols_after st s = slice_set st.symbols (model_of (difference_of st))
@@ -116,3 +130,14 @@ state_events st time (Some i) =
     let slot = slot_at (after_switch st.sequences i) (after_switch st.sequences i).last in
     switch_events (difference_of st) i ++ near_events slot.difference slot.time time
 state_events st time None = new_events (difference_of st) (slot_of st).time time
+
+-- The events of a time that is near in the sequence of the latest point, and of one that opens a sequence.
+abbrev pub near_here : TimeState → ℕ → List Event
+near_here st time = near_events (difference_of st) (slot_of st).time time
+
+abbrev pub new_here : TimeState → ℕ → List Event
+new_here st time = new_events (difference_of st) (slot_of st).time time
+
+-- The events of a time, by the first sequence on that it is near to.
+abbrev pub events_here : TimeState → ℕ → List Event
+events_here st time = state_events st time (nearest (time_from st.sequences) time)

@@ -1,13 +1,11 @@
 //! A time coded.
-ghost use Rattle.std.specs.Prelude.{◌≡◌, ◌<◌, ◌≤◌, ◌+◌, ◌%◌, ◌/◌, ◌++◌, [], ◌∷◌, List, ℕ, false, Option, IfSome};
-ghost use Rattle.laz_range.specs.Coding.{Codes};
-ghost use Rattle.laz_integer.specs.Events.{Event, cuts_after};
-ghost use Rattle.laz_gpstime.specs.Meanings.{New, meaning};
+ghost use Rattle.std.specs.Prelude.{◌≡◌, ◌<◌, ◌≤◌, ◌+◌, ◌%◌, ◌/◌, Option, IfSome};
+ghost use Rattle.laz_gpstime.specs.Meanings.{New};
 ghost use Rattle.laz_gpstime.specs.Sequences.{time_difference};
 ghost use Rattle.laz_gpstime.specs.State.{state_of};
-ghost use Rattle.laz_gpstime.specs.Slots.{IsTimeState, ModelsStand, after_coded, difference_of, after_switch, slot_of};
-ghost use Rattle.laz_gpstime.specs.Slots.{state_events, time_from, after_point};
-ghost use Rattle.laz_gpstime.specs.Times.{is_near, model_of, near_events, near_symbol, nearest, new_events};
+ghost use Rattle.laz_gpstime.specs.Slots.{CodesHere, IsTimeState, StandWith, after_coded, after_near, after_point};
+ghost use Rattle.laz_gpstime.specs.Slots.{after_switch, difference_of, events_here, near_here, new_here, time_from};
+ghost use Rattle.laz_gpstime.specs.Times.{is_near, nearest};
 ghost use Rattle.laz_gpstime.specs.Times.{switch_events};
 
 use crate::sequences::{Sequences, add_point, current, difference_word, open_sequence, switch_by};
@@ -40,10 +38,10 @@ fn put_switch(times: &mut Times, encoder: &mut Encoder, i: usize)
     ensures sequences { times.new.sequences ≡ after_switch times.old.sequences i }
     ensures state { IsTimeState (state_of times.new) }
     ensures used { encoder.old.left ≤ encoder.new.left + 3 }
-    ensures codes { (earlier : List Event) → ModelsStand earlier (state_of times.old) → Codes encoder.old encoder.new
-        (cuts_after earlier (switch_events (difference_of (state_of times.old)) i)) }
-    ensures stands { (earlier : List Event) → ModelsStand earlier (state_of times.old)
-        → ModelsStand (earlier ++ switch_events (difference_of (state_of times.old)) i) (state_of times.new) }
+    ensures codes { CodesHere (state_of times.old) (switch_events (difference_of (state_of times.old)) i)
+        encoder.old encoder.new }
+    ensures stands { StandWith (state_of times.old) (switch_events (difference_of (state_of times.old)) i)
+        (state_of times.new) }
 {
     if i == 0 {
         return;
@@ -58,18 +56,11 @@ fn put_switch(times: &mut Times, encoder: &mut Encoder, i: usize)
 fn put_near(times: &mut Times, encoder: &mut Encoder, time: u64)
     requires state { IsTimeState (state_of times.old) }
     requires left { 15 ≤ encoder.old.left }
-    ensures sequences { let slot = slot_of (state_of times.old) in
-        times.new.sequences ≡ after_point times.old.sequences
-        (meaning (model_of slot.difference) (near_symbol slot.difference (time_difference slot.time time % 4294967296)))
-        time }
+    ensures sequences { times.new.sequences ≡ after_near times.old.sequences time }
     ensures state { IsTimeState (state_of times.new) }
     ensures used { encoder.old.left ≤ encoder.new.left + 15 }
-    ensures codes { (earlier : List Event) → ModelsStand earlier (state_of times.old) →
-        let slot = slot_of (state_of times.old) in Codes encoder.old encoder.new
-        (cuts_after earlier (near_events slot.difference slot.time time)) }
-    ensures stands { (earlier : List Event) → ModelsStand earlier (state_of times.old) →
-        let slot = slot_of (state_of times.old) in
-        ModelsStand (earlier ++ near_events slot.difference slot.time time) (state_of times.new) }
+    ensures codes { CodesHere (state_of times.old) (near_here (state_of times.old) time) encoder.old encoder.new }
+    ensures stands { StandWith (state_of times.old) (near_here (state_of times.old) time) (state_of times.new) }
 {
     let slot = current(&times.sequences);
     let word = difference_word(slot.time, time);
@@ -94,12 +85,8 @@ fn put_new(times: &mut Times, encoder: &mut Encoder, time: u64)
     ensures sequences { times.new.sequences ≡ after_point times.old.sequences New time }
     ensures state { IsTimeState (state_of times.new) }
     ensures used { encoder.old.left ≤ encoder.new.left + 21 }
-    ensures codes { (earlier : List Event) → ModelsStand earlier (state_of times.old) →
-        let slot = slot_of (state_of times.old) in Codes encoder.old encoder.new
-        (cuts_after earlier (new_events slot.difference slot.time time)) }
-    ensures stands { (earlier : List Event) → ModelsStand earlier (state_of times.old) →
-        let slot = slot_of (state_of times.old) in
-        ModelsStand (earlier ++ new_events slot.difference slot.time time) (state_of times.new) }
+    ensures codes { CodesHere (state_of times.old) (new_here (state_of times.old) time) encoder.old encoder.new }
+    ensures stands { StandWith (state_of times.old) (new_here (state_of times.old) time) (state_of times.new) }
 {
     let slot = current(&times.sequences);
     put_time_symbol(times, encoder, new_symbol(slot.difference));
@@ -143,11 +130,8 @@ pub(crate) fn put_time<M>(times: &mut Times, encoder: &mut Encoder, time: u64)
         ≡ after_coded times.old.sequences time (nearest (time_from times.old.sequences) time) }
     ensures state { IsTimeState (state_of times.new) }
     ensures used { encoder.old.left ≤ encoder.new.left + 21 }
-    ensures codes { (earlier : List Event) → ModelsStand earlier (state_of times.old) → Codes encoder.old encoder.new
-        (cuts_after earlier (state_events (state_of times.old) time (nearest (time_from times.old.sequences) time))) }
-    ensures stands { (earlier : List Event) → ModelsStand earlier (state_of times.old)
-        → ModelsStand (earlier ++ state_events (state_of times.old) time (nearest (time_from times.old.sequences) time))
-        (state_of times.new) }
+    ensures codes { CodesHere (state_of times.old) (events_here (state_of times.old) time) encoder.old encoder.new }
+    ensures stands { StandWith (state_of times.old) (events_here (state_of times.old) time) (state_of times.new) }
 {
     match nearest(&times.sequences, time) {
         Some(i) => {

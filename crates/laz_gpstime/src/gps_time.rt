@@ -1,15 +1,10 @@
 //! The item GPSTIME11.
-ghost use Rattle.std.specs.Prelude.{◌≡◌, ◌<◌, ◌≤◌, ◌+◌, ◌++◌, [], ◌∷◌, List, ℕ, length, false, MatchResult, OnErr};
+ghost use Rattle.std.specs.Prelude.{◌≡◌, ◌<◌, ◌≤◌, ◌+◌, [], ◌∷◌, length, false};
 ghost use Rattle.std.specs.Prelude.{OnOk};
-ghost use Rattle.laz_range.specs.Coding.{Codes};
-ghost use Rattle.laz_range.specs.Decoding.{NoneBegins, Refuses};
-ghost use Rattle.laz_integer.specs.Events.{Event, Name, cuts_after};
-ghost use Rattle.laz_integer.specs.Ranged.{AreRanged};
-ghost use Rattle.laz_gpstime.specs.Sequences.{Point};
-ghost use Rattle.laz_gpstime.specs.Times.{time_at, time_events};
-ghost use Rattle.laz_gpstime.specs.Items.{HasTimeSizes, IsSpelledTime, ReadsTime, TimeStands, point_with};
-ghost use Rattle.laz_integer.specs.Spelled.{OneBegins};
-ghost use Rattle.laz_integer.specs.Spelled.{spelled_cuts};
+ghost use Rattle.laz_gpstime.specs.Times.{time_at};
+ghost use Rattle.laz_gpstime.specs.Slots.{first_slots};
+ghost use Rattle.laz_gpstime.specs.Items.{CodesTime, NoTimeBegins, OnlyTimeBegins, ReadsNextTime, StandsWithTime};
+ghost use Rattle.laz_gpstime.specs.Items.{TimeStands, point_with};
 
 use crate::coding::put_time;
 use crate::limits::TOTAL;
@@ -50,9 +45,7 @@ const EMPTY: Slot = Slot {
 
 // The sequences after the first time of a chunk.
 pub(crate) fn sequences_of(time: u64) -> Sequences
-    ensures slots { result.slots ≡ record { time = time; difference = 0; extremes = 0 }
-        ∷ record { time = 0; difference = 0; extremes = 0 } ∷ record { time = 0; difference = 0; extremes = 0 }
-        ∷ record { time = 0; difference = 0; extremes = 0 } ∷ [] }
+    ensures slots { result.slots ≡ first_slots time }
     ensures last { result.last ≡ 0 }
     ensures next { result.next ≡ 0 }
 {
@@ -115,12 +108,8 @@ impl GpsTime {
         requires part { length part.now ≡ 8 }
         requires left { 21 ≤ encoder.old.left }
         ensures used { encoder.old.left ≤ encoder.new.left + 21 }
-        ensures events { (earlier : List Event) (points : List Point) → TimeStands earlier points self.old
-            → Codes encoder.old encoder.new (cuts_after earlier (time_events points (time_at part.now))) }
-        ensures stands { (earlier : List Event) (points : List Point) → TimeStands earlier points self.old
-            → let time = time_at part.now in
-            let events = time_events points time in
-            TimeStands (earlier ++ events) (point_with time events ∷ points) self.new }
+        ensures events { CodesTime self.old (time_at part.now) encoder.old encoder.new }
+        ensures stands { StandsWithTime self.old (time_at part.now) self.new }
     {
         self.code_for::<()>(encoder, part);
     }
@@ -131,12 +120,8 @@ impl GpsTime {
         requires part { length part.now ≡ 8 }
         requires left { 21 ≤ encoder.old.left }
         ensures used { encoder.old.left ≤ encoder.new.left + 21 }
-        ensures events { (earlier : List Event) (points : List Point) → TimeStands earlier points self.old
-            → Codes encoder.old encoder.new (cuts_after earlier (time_events points (time_at part.now))) }
-        ensures stands { (earlier : List Event) (points : List Point) → TimeStands earlier points self.old
-            → let time = time_at part.now in
-            let events = time_events points time in
-            TimeStands (earlier ++ events) (point_with time events ∷ points) self.new }
+        ensures events { CodesTime self.old (time_at part.now) encoder.old encoder.new }
+        ensures stands { StandsWithTime self.old (time_at part.now) self.new }
     {
         put_time::<M>(&mut self.times, encoder, time_of(part));
     }
@@ -149,15 +134,9 @@ impl GpsTime {
         requires part { length part.old ≡ 8 }
         ensures part { length part.new ≡ 8 }
         ensures good { OnOk result (decoder.new.failed ≡ false) }
-        ensures reads { (earlier : List Event) (points : List Point) → TimeStands earlier points self.old
-            → MatchResult result (λ _. ReadsTime earlier points (time_at part.new) decoder.old decoder.new self.new)
-            (λ _. Refuses (IsSpelledTime points) (spelled_cuts earlier) decoder.old decoder.new) }
-        ensures only { (earlier : List Event) (points : List Point) → TimeStands earlier points self.old
-            → (sizes : Name → ℕ) → HasTimeSizes sizes → AreRanged sizes earlier
-            → OnOk result (OneBegins (IsSpelledTime points) earlier decoder.old (time_at part.new)) }
-        ensures none { (earlier : List Event) (points : List Point) → TimeStands earlier points self.old
-            → (sizes : Name → ℕ) → HasTimeSizes sizes → AreRanged sizes earlier
-            → OnErr result (NoneBegins (IsSpelledTime points) (spelled_cuts earlier) decoder.old) }
+        ensures reads { ReadsNextTime result self.old (time_at part.new) decoder.old decoder.new self.new }
+        ensures only { OnlyTimeBegins result self.old (time_at part.new) decoder.old }
+        ensures none { NoTimeBegins result self.old decoder.old }
     {
         self.read_for::<()>(decoder, part)
     }
@@ -169,15 +148,9 @@ impl GpsTime {
         requires part { length part.old ≡ 8 }
         ensures part { length part.new ≡ 8 }
         ensures good { OnOk result (decoder.new.failed ≡ false) }
-        ensures reads { (earlier : List Event) (points : List Point) → TimeStands earlier points self.old
-            → MatchResult result (λ _. ReadsTime earlier points (time_at part.new) decoder.old decoder.new self.new)
-            (λ _. Refuses (IsSpelledTime points) (spelled_cuts earlier) decoder.old decoder.new) }
-        ensures only { (earlier : List Event) (points : List Point) → TimeStands earlier points self.old
-            → (sizes : Name → ℕ) → HasTimeSizes sizes → AreRanged sizes earlier
-            → OnOk result (OneBegins (IsSpelledTime points) earlier decoder.old (time_at part.new)) }
-        ensures none { (earlier : List Event) (points : List Point) → TimeStands earlier points self.old
-            → (sizes : Name → ℕ) → HasTimeSizes sizes → AreRanged sizes earlier
-            → OnErr result (NoneBegins (IsSpelledTime points) (spelled_cuts earlier) decoder.old) }
+        ensures reads { ReadsNextTime result self.old (time_at part.new) decoder.old decoder.new self.new }
+        ensures only { OnlyTimeBegins result self.old (time_at part.new) decoder.old }
+        ensures none { NoTimeBegins result self.old decoder.old }
     {
         let time = take_time::<M>(&mut self.times, decoder)?;
         set_time(part, time);

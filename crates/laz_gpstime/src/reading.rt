@@ -1,18 +1,11 @@
 //! A time read.
-ghost use Rattle.std.specs.Prelude.{◌≡◌, ◌≢◌, ◌<◌, ◌≤◌, ◌+◌, ◌*◌, ◌/◌, ◌++◌, [], ◌∷◌, List, ℕ, false, length, IfOk};
-ghost use Rattle.std.specs.Prelude.{MatchResult};
-ghost use Rattle.std.specs.Int.{w32, cast_signed, cast_unsigned};
-ghost use Rattle.laz_range.specs.Cut.{raw_cuts};
-ghost use Rattle.laz_range.specs.Decoding.{Reads, Refuses, Takes, TakesNone};
-ghost use Rattle.laz_integer.specs.Corrector.{corrected};
-ghost use Rattle.laz_integer.specs.Integer.{IsCorrector, int_cuts, int_next};
-ghost use Rattle.laz_gpstime.specs.Choices.{Choice, Front, IsChoice, IsFront, IsRest, Rest, choice_cuts, choice_next};
-ghost use Rattle.laz_gpstime.specs.Choices.{choice_time, time_symbol_cuts, front_cuts, front_next, symbol_next};
-ghost use Rattle.laz_gpstime.specs.Choices.{rest_cuts, rest_next, rest_time};
-ghost use Rattle.laz_gpstime.specs.Meanings.{meaning};
+ghost use Rattle.std.specs.Prelude.{◌≡◌, ◌≢◌, ◌<◌, ◌≤◌, ◌+◌, ◌*◌, false, length, IfOk};
+ghost use Rattle.laz_range.specs.Decoding.{Reads};
+ghost use Rattle.laz_gpstime.specs.Choices.{ReadsChoice, ReadsFront, ReadsLastSymbol, ReadsRest, ReadsWordAt};
+ghost use Rattle.laz_gpstime.specs.Choices.{time_symbol_cuts, symbol_next};
 ghost use Rattle.laz_gpstime.specs.Spelling.{time_plus};
 ghost use Rattle.laz_gpstime.specs.State.{state_of};
-ghost use Rattle.laz_gpstime.specs.Slots.{IsTimeState, difference_of, after_switch, slot_of, after_point};
+ghost use Rattle.laz_gpstime.specs.Slots.{IsTimeState, difference_of};
 ghost use Rattle.laz_gpstime.specs.Times.{context, model_of, new_symbol, predicted, same_symbol, symbols_of};
 
 use crate::coding::high;
@@ -42,9 +35,7 @@ fn take_time_symbol(times: &mut Times, decoder: &mut Decoder<'_>) -> Result<u32,
 fn take_last_symbol(times: &mut Times, decoder: &mut Decoder<'_>) -> Result<u32, Bad>
     requires good { decoder.old.failed ≡ false }
     requires state { IsTimeState (state_of times.old) }
-    ensures reads { let st = state_of times.old in MatchResult result (λ s. Takes
-        (λ s. s ≤ new_symbol (difference_of st)) (time_symbol_cuts st) decoder.old decoder.new s) (λ _. Refuses
-        (λ s. s ≤ new_symbol (difference_of st)) (time_symbol_cuts st) decoder.old decoder.new) }
+    ensures reads { ReadsLastSymbol result (state_of times.old) decoder.old decoder.new }
     ensures next { IfOk result (λ s. state_of times.new ≡ symbol_next (state_of times.old) s) }
     ensures state { IsTimeState (state_of times.new) }
 {
@@ -61,9 +52,7 @@ fn take_last_symbol(times: &mut Times, decoder: &mut Decoder<'_>) -> Result<u32,
 fn take_symbols(times: &mut Times, decoder: &mut Decoder<'_>) -> Result<u32, Bad>
     requires good { decoder.old.failed ≡ false }
     requires state { IsTimeState (state_of times.old) }
-    ensures reads { let st = state_of times.old in MatchResult result (λ s. (i : ℕ) × Takes (IsFront st)
-        (front_cuts st) decoder.old decoder.new (i, s) × (state_of times.new ≡ front_next st (i, s)))
-        (λ _. Refuses (IsFront st) (front_cuts st) decoder.old decoder.new) }
+    ensures reads { ReadsFront result (state_of times.old) decoder.old decoder.new (state_of times.new) }
     ensures state { IsTimeState (state_of times.new) }
 {
     let new = new_symbol(current(&times.sequences).difference);
@@ -81,11 +70,7 @@ fn take_word(times: &mut Times, decoder: &mut Decoder<'_>, pred: u32, ctx: u32) 
     requires good { decoder.old.failed ≡ false }
     requires state { IsTimeState (state_of times.old) }
     requires context { ctx < 9 }
-    ensures reads { let st = state_of times.old in MatchResult result (λ word. (x : ℕ × ℕ) × Takes (IsCorrector 32)
-        (λ y. int_cuts st.integers ctx y.0 y.1) decoder.old decoder.new x
-        × (word ≡ cast_unsigned w32 (corrected 32 (cast_signed w32 pred) x.0 x.1))
-        × (times.new.integers ≡ int_next st.integers ctx x.0 x.1)) (λ _. TakesNone (IsCorrector 32)
-        (λ y. int_cuts st.integers ctx y.0 y.1) decoder.old decoder.new) }
+    ensures reads { ReadsWordAt result times.old.integers ctx pred decoder.old decoder.new times.new.integers }
     ensures sequences { times.new.sequences ≡ times.old.sequences }
     ensures symbols { times.new.symbols ≡ times.old.symbols }
     ensures state { IsTimeState (state_of times.new) }
@@ -113,11 +98,7 @@ fn take_near(times: &mut Times, decoder: &mut Decoder<'_>, symbol: u32) -> Resul
     requires state { IsTimeState (state_of times.old) }
     requires below { symbol < new_symbol (difference_of (state_of times.old)) }
     requires differs { symbol ≢ same_symbol (difference_of (state_of times.old)) }
-    ensures reads { let st = state_of times.old in MatchResult result (λ time. (y : Rest)
-        × Takes (IsRest (difference_of st) symbol) (rest_cuts st symbol) decoder.old decoder.new y
-        × (time ≡ rest_time (difference_of st) (slot_of st).time symbol y)
-        × (state_of times.new ≡ rest_next st symbol y)) (λ _. TakesNone (IsRest (difference_of st) symbol)
-        (rest_cuts st symbol) decoder.old decoder.new) }
+    ensures reads { ReadsRest result (state_of times.old) symbol decoder.old decoder.new (state_of times.new) }
     ensures state { IsTimeState (state_of times.new) }
 {
     let slot = current(&times.sequences);
@@ -133,11 +114,8 @@ fn take_near(times: &mut Times, decoder: &mut Decoder<'_>, symbol: u32) -> Resul
 fn take_new(times: &mut Times, decoder: &mut Decoder<'_>) -> Result<u64, Bad>
     requires good { decoder.old.failed ≡ false }
     requires state { IsTimeState (state_of times.old) }
-    ensures reads { let st = state_of times.old in let symbol = new_symbol (difference_of st) in MatchResult result
-        (λ time. (y : Rest) × Takes (IsRest (difference_of st) symbol) (rest_cuts st symbol) decoder.old decoder.new y
-        × (time ≡ rest_time (difference_of st) (slot_of st).time symbol y)
-        × (state_of times.new ≡ rest_next st symbol y)) (λ _. TakesNone (IsRest (difference_of st) symbol)
-        (rest_cuts st symbol) decoder.old decoder.new) }
+    ensures reads { let st = state_of times.old in
+        ReadsRest result st (new_symbol (difference_of st)) decoder.old decoder.new (state_of times.new) }
     ensures state { IsTimeState (state_of times.new) }
 {
     let from = current(&times.sequences).time;
@@ -155,11 +133,7 @@ fn take_rest<M>(times: &mut Times, decoder: &mut Decoder<'_>, symbol: u32) -> Re
     requires within { decoder.old.taken ≤ length decoder.old.bytes }
     requires state { IsTimeState (state_of times.old) }
     requires symbol { symbol ≤ new_symbol (difference_of (state_of times.old)) }
-    ensures reads { let st = state_of times.old in MatchResult result (λ time. (y : Rest)
-        × Takes (IsRest (difference_of st) symbol) (rest_cuts st symbol) decoder.old decoder.new y
-        × (time ≡ rest_time (difference_of st) (slot_of st).time symbol y)
-        × (state_of times.new ≡ rest_next st symbol y)) (λ _. TakesNone (IsRest (difference_of st) symbol)
-        (rest_cuts st symbol) decoder.old decoder.new) }
+    ensures reads { ReadsRest result (state_of times.old) symbol decoder.old decoder.new (state_of times.new) }
     ensures state { IsTimeState (state_of times.new) }
 {
     let slot = current(&times.sequences);
@@ -178,10 +152,7 @@ fn take_rest<M>(times: &mut Times, decoder: &mut Decoder<'_>, symbol: u32) -> Re
 pub(crate) fn take_time<M>(times: &mut Times, decoder: &mut Decoder<'_>) -> Result<u64, Bad>
     requires good { decoder.old.failed ≡ false }
     requires state { IsTimeState (state_of times.old) }
-    ensures reads { let st = state_of times.old in MatchResult result (λ time. (x : Choice) × Takes (IsChoice st)
-        (choice_cuts st) decoder.old decoder.new x × (time ≡ choice_time st x)
-        × (state_of times.new ≡ choice_next st x)) (λ _. Refuses (IsChoice st) (choice_cuts st)
-        decoder.old decoder.new) }
+    ensures reads { ReadsChoice result (state_of times.old) decoder.old decoder.new (state_of times.new) }
     ensures word { IfOk result (λ time. time < 18446744073709551616) }
     ensures state { IsTimeState (state_of times.new) }
 {

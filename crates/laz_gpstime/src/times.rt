@@ -1,15 +1,11 @@
 //! What is kept of times, and a symbol or a word coded.
-ghost use Rattle.std.specs.Prelude.{◌≡◌, ◌<◌, ◌≤◌, ◌+◌, ◌++◌, ◌^◌, [], ◌∷◌, List, ℕ, false, IfOk, OnErr};
-ghost use Rattle.laz_range.specs.Coding.{Codes};
-ghost use Rattle.laz_range.specs.Decoding.{Reads};
-ghost use Rattle.laz_models.specs.Bank.{model_at};
+ghost use Rattle.std.specs.Prelude.{◌≡◌, ◌<◌, ◌≤◌, ◌+◌, [], ◌∷◌};
 ghost use Rattle.laz_models.specs.Counting.{after_symbol};
-ghost use Rattle.laz_integer.specs.Events.{Event, cuts_after};
-ghost use Rattle.laz_integer.specs.Integer.{IntEvents, symbol_cut};
+ghost use Rattle.laz_integer.specs.Integer.{IntEvents};
 ghost use Rattle.std.specs.Int.{w32, cast_signed};
 ghost use Rattle.laz_gpstime.specs.Meanings.{time_kind};
 ghost use Rattle.laz_gpstime.specs.State.{state_of};
-ghost use Rattle.laz_gpstime.specs.Slots.{IsTimeState, ModelsStand, difference_of, slot_at, slot_of, symbols_after};
+ghost use Rattle.laz_gpstime.specs.Slots.{CodesHere, IsTimeState, StandWith, difference_of, symbols_after};
 ghost use Rattle.laz_gpstime.specs.Times.{model_of, symbols_of, time_symbol};
 
 use crate::sequences::{Sequences, current};
@@ -37,10 +33,10 @@ pub(crate) fn put_time_symbol(times: &mut Times, encoder: &mut Encoder, symbol: 
     ensures integers { times.new.integers ≡ times.old.integers }
     ensures state { IsTimeState (state_of times.new) }
     ensures used { encoder.old.left ≤ encoder.new.left + 3 }
-    ensures codes { (earlier : List Event) → ModelsStand earlier (state_of times.old) → Codes encoder.old encoder.new
-        (cuts_after earlier (time_symbol (difference_of (state_of times.old)) symbol ∷ [])) }
-    ensures stands { (earlier : List Event) → ModelsStand earlier (state_of times.old)
-        → ModelsStand (earlier ++ time_symbol (difference_of (state_of times.old)) symbol ∷ []) (state_of times.new) }
+    ensures codes { CodesHere (state_of times.old) (time_symbol (difference_of (state_of times.old)) symbol ∷ [])
+        encoder.old encoder.new }
+    ensures stands { StandWith (state_of times.old) (time_symbol (difference_of (state_of times.old)) symbol ∷ [])
+        (state_of times.new) }
 {
     let difference = current(&times.sequences).difference;
     put_symbol_of(encoder, &mut times.symbols, model_of(difference), symbol);
@@ -56,11 +52,10 @@ pub(crate) fn put_word(times: &mut Times, encoder: &mut Encoder, pred: u32, real
     ensures symbols { times.new.symbols ≡ times.old.symbols }
     ensures state { IsTimeState (state_of times.new) }
     ensures used { encoder.old.left ≤ encoder.new.left + 12 }
-    ensures codes { (earlier : List Event) → ModelsStand earlier (state_of times.old) → Codes encoder.old encoder.new
-        (cuts_after earlier (IntEvents time_kind 32 ctx (cast_signed w32 pred) (cast_signed w32 real))) }
-    ensures stands { (earlier : List Event) → ModelsStand earlier (state_of times.old)
-        → ModelsStand (earlier ++ IntEvents time_kind 32 ctx (cast_signed w32 pred) (cast_signed w32 real))
-        (state_of times.new) }
+    ensures codes { CodesHere (state_of times.old)
+        (IntEvents time_kind 32 ctx (cast_signed w32 pred) (cast_signed w32 real)) encoder.old encoder.new }
+    ensures stands { StandWith (state_of times.old)
+        (IntEvents time_kind 32 ctx (cast_signed w32 pred) (cast_signed w32 real)) (state_of times.new) }
 {
     times
         .integers

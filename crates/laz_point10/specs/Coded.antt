@@ -1,6 +1,7 @@
 -- What the code keeps of earlier points, and all that is read of a point: its parts, its events, the models after it,
 -- and the point that it makes.
-use Rattle.std.specs.Prelude.{◌≡◌, ℕ, pos, ◌<◌, ◌≤◌, List, [], ◌∷◌, ◌++◌, length, slice_index, slice_index_or}
+use Rattle.std.specs.Prelude.{◌≡◌, ℕ, pos, ◌<◌, ◌≤◌, List, [], ◌∷◌, ◌++◌, length, slice_index, slice_index_or, ℤ}
+use Rattle.std.specs.Prelude.{MatchResult, Result}
 use Rattle.std.specs.Prelude.{slice_set}
 use Rattle.std.specs.Int.{w32, int_wrapping_add, int_wrapping_sub}
 use Rattle.laz_range.specs.Cut.{Cut}
@@ -30,6 +31,7 @@ use Rattle.laz_point10.specs.Groups.{angle_in, classification_in, dx_in, dy_in, 
 use Rattle.laz_point10.specs.Groups.{IsPlace, IsScan, IsSurface, PlaceChoice, ScanChoice, SurfaceChoice, head_cuts}
 use Rattle.laz_point10.specs.Groups.{head_next, head_written, place_cuts, place_next, place_written, scan_cuts}
 use Rattle.laz_point10.specs.Groups.{scan_next, scan_written, surface_cuts, surface_next, surface_written}
+use Rattle.laz_range.specs.Decoding.{Decoding, Takes, TakesNone}
 
 -- ---- the history of a chunk
 
@@ -203,3 +205,47 @@ point_made h x =
 abbrev pub choice_written : History → Point → PointChoice
 choice_written h p =
     let e = predicted h p.flags in (head_written e p, (surface_written e p, (scan_written e p, place_written e p)))
+
+-- ---- what is answered: what is read makes the answer and the models, or none of it begins the rest of the bytes
+
+-- The intensity and the classification.
+abbrev pub ReadsSurface : {E : Type 0} → Result (ℕ × ℕ) E → Predictions → (changes flags : ℕ) → (old : SurfaceModels)
+    → Decoding → Decoding → (new : SurfaceModels) → Type 0
+ReadsSurface result e changes flags models old new next =
+    MatchResult result
+    (λ r. (w : ℕ × ℕ) × Takes (IsSurface e changes) (surface_cuts models e changes flags) old new (w, r.1)
+    × (r.0 ≡ word_value (has_bit 16 changes) e.intensity w) × (next ≡ surface_next models e changes flags (w, r.1)))
+    (λ _. TakesNone (IsSurface e changes) (surface_cuts models e changes flags) old new)
+
+-- The difference of the scan angle, the user data and the point source.
+abbrev pub ReadsScan : {E : Type 0} → Result (ℕ × ℕ × ℕ) E → Predictions → (changes flags : ℕ) → (old : ScanModels)
+    → Decoding → Decoding → (new : ScanModels) → Type 0
+ReadsScan result e changes flags models old new next =
+    MatchResult result
+    (λ r. (w : ℕ × ℕ) × Takes (IsScan e changes) (scan_cuts models e changes flags) old new (r.0, (r.1, w))
+    × (r.2 ≡ word_value (has_bit 1 changes) e.previous.point_source w)
+    × (next ≡ scan_next models e changes flags (r.0, (r.1, w))))
+    (λ _. TakesNone (IsScan e changes) (scan_cuts models e changes flags) old new)
+
+-- dx, dy and z.
+abbrev pub MakesPlace : Predictions → (place : ℤ × ℤ × ℤ) → PlaceChoice → Type 0
+MakesPlace e r x =
+    (r.0 ≡ corrected 32 e.dx x.0.0 x.0.1) × (r.1 ≡ corrected 32 e.dy x.1.0.0 x.1.0.1)
+    × (r.2 ≡ corrected 32 e.z x.1.1.0 x.1.1.1)
+
+abbrev pub ReadsPlace : {E : Type 0} → Result (ℤ × ℤ × ℤ) E → Predictions → (flags : ℕ) → (old : PlaceModels)
+    → Decoding → Decoding → (new : PlaceModels) → Type 0
+ReadsPlace result e flags models old new next =
+    MatchResult result
+    (λ r. (x : PlaceChoice) × Takes IsPlace (place_cuts models flags) old new x
+    × MakesPlace e r x × (next ≡ place_next models flags x))
+    (λ _. TakesNone IsPlace (place_cuts models flags) old new)
+
+-- A whole point.
+abbrev pub ReadsPointAfter : {E : Type 0} → Result Point E → History → (old : Models) → Decoding → Decoding
+    → (new : Models) → Type 0
+ReadsPointAfter result h models old new next =
+    MatchResult result
+    (λ p. (x : PointChoice) × Takes (IsPointChoice h) (choice_cuts models h) old new x
+    × (p ≡ point_made h x) × (next ≡ choice_next models h x))
+    (λ _. TakesNone (IsPointChoice h) (choice_cuts models h) old new)

@@ -1,7 +1,7 @@
 -- What the item stands for: the events of a stream, and the chunk's points so far, the latest one first. And what a
 -- reader answers.
-use Rattle.std.specs.Prelude.{◌≡◌, ℕ, List, ◌∷◌, ◌++◌}
-use Rattle.laz_range.specs.Decoding.{Decoding, ReadsOn, Takes}
+use Rattle.std.specs.Prelude.{◌≡◌, ℕ, List, ◌∷◌, ◌++◌, MatchResult, OnErr, OnOk, Result}
+use Rattle.laz_range.specs.Decoding.{Decoding, ReadsOn, Takes, NoneBegins, Refuses}
 use Rattle.laz_integer.specs.Events.{Event, Name, cuts_after}
 use Rattle.laz_integer.specs.Uses.{own_name}
 use Rattle.laz_integer.specs.Ranged.{AreRanged, HasIntSizes}
@@ -9,9 +9,11 @@ use Rattle.laz_point10.specs.declared.point.Point.{Point}
 use Rattle.laz_point10.specs.declared.history.History.{History}
 use Rattle.laz_point10.specs.declared.models.Models.{Models}
 use Rattle.laz_point10.specs.PointEvents.{SpellsPoint, changes_kind, classification_kind, flags_kind, intensity_kind}
+use Rattle.laz_point10.specs.PointEvents.{point_events}
 use Rattle.laz_point10.specs.PointEvents.{point_source_kind, scan_angle_kind, user_data_kind, x_kind, y_kind, z_kind}
 use Rattle.laz_point10.specs.Coded.{AreModels, HistoryStands, ModelsStand}
-use Rattle.laz_integer.specs.Spelled.{spelled_cuts}
+use Rattle.laz_integer.specs.Spelled.{spelled_cuts, OneBegins}
+use Rattle.laz_range.specs.Coding.{Codes, Coding}
 
 -- Numbers of symbols under which the events of points are lawful: 64 for the changes, 256 for each byte, and those of
 -- integers.
@@ -53,3 +55,37 @@ pub record ReadsPoint (earlier : List Event) (points : List Point) (point : Poin
   pub reads : (sizes : Name → ℕ) → HasPointSizes sizes → AreRanged sizes earlier
       → ReadsOn (cuts_after earlier events) old new
   pub stands : PointStands (earlier ++ events) (point ∷ points) st
+
+-- ---- what the calls of an item promise, whatever stream and points it stands for
+
+-- The events of a point are coded.
+abbrev pub CodesPoint : PointState → Point → Coding → Coding → Type 0
+CodesPoint st point old new = (earlier : List Event) (points : List Point) → PointStands earlier points st
+    → Codes old new (cuts_after earlier (point_events points point))
+
+-- The item then stands for the point, too.
+abbrev pub StandsWithPoint : (old : PointState) → Point → (new : PointState) → Type 0
+StandsWithPoint old point new = (earlier : List Event) (points : List Point) → PointStands earlier points old
+    → PointStands (earlier ++ point_events points point) (point ∷ points) new
+
+-- A point is read by the one spelling that begins the rest of the bytes, or none of a point does.
+abbrev pub ReadsNextPoint : {E : Type 0} → Result (Unit {0}) E → (old : PointState) → Point → Decoding → Decoding
+    → (new : PointState) → Type 0
+ReadsNextPoint result st point old new next =
+    (earlier : List Event) (points : List Point) → PointStands earlier points st
+    → MatchResult result (λ _. ReadsPoint earlier points point old new next)
+    (λ _. Refuses (IsSpelledPoint points) (spelled_cuts earlier) old new)
+
+-- After lawful events, no spelling of another point begins what was left.
+abbrev pub OnlyPointBegins : {E : Type 0} → Result (Unit {0}) E → PointState → Point → Decoding → Type 0
+OnlyPointBegins result st point old =
+    (earlier : List Event) (points : List Point) → PointStands earlier points st
+    → (sizes : Name → ℕ) → HasPointSizes sizes → AreRanged sizes earlier
+    → OnOk result (OneBegins (IsSpelledPoint points) earlier old point)
+
+-- After lawful events, `Bad` means that no spelling of a point begins it.
+abbrev pub NoPointBegins : {E : Type 0} → Result (Unit {0}) E → PointState → Decoding → Type 0
+NoPointBegins result st old =
+    (earlier : List Event) (points : List Point) → PointStands earlier points st
+    → (sizes : Name → ℕ) → HasPointSizes sizes → AreRanged sizes earlier
+    → OnErr result (NoneBegins (IsSpelledPoint points) (spelled_cuts earlier) old)

@@ -1,14 +1,8 @@
 //! The item POINT10.
-ghost use Rattle.std.specs.Prelude.{◌≡◌, ◌+◌, ◌≤◌, ◌++◌, List, [], ◌∷◌, ℕ, length, false, MatchResult, OnErr, OnOk};
-ghost use Rattle.laz_range.specs.Coding.{Codes};
-ghost use Rattle.laz_range.specs.Decoding.{NoneBegins, Refuses};
-ghost use Rattle.laz_integer.specs.Events.{Event, Name, cuts_after};
-ghost use Rattle.laz_integer.specs.Ranged.{AreRanged};
+ghost use Rattle.std.specs.Prelude.{◌≡◌, ◌+◌, ◌≤◌, [], ◌∷◌, length, false, OnOk};
 ghost use Rattle.laz_point10.specs.Points.{point_at};
-ghost use Rattle.laz_point10.specs.PointEvents.{point_events};
-ghost use Rattle.laz_point10.specs.Items.{HasPointSizes, IsSpelledPoint, PointStands, ReadsPoint};
-ghost use Rattle.laz_integer.specs.Spelled.{OneBegins};
-ghost use Rattle.laz_integer.specs.Spelled.{spelled_cuts};
+ghost use Rattle.laz_point10.specs.Items.{PointStands, CodesPoint, NoPointBegins, OnlyPointBegins, ReadsNextPoint};
+ghost use Rattle.laz_point10.specs.Items.{StandsWithPoint};
 
 use crate::history::History;
 use crate::models::{Models, new_models, reset};
@@ -62,11 +56,8 @@ impl Point10 {
         requires part { length part.now ≡ 20 }
         requires left { 69 ≤ encoder.old.left }
         ensures used { encoder.old.left ≤ encoder.new.left + 69 }
-        ensures events { (earlier : List Event) (points : List Point) → PointStands earlier points self.old
-            → Codes encoder.old encoder.new (cuts_after earlier (point_events points (point_at part.now))) }
-        ensures stands { (earlier : List Event) (points : List Point) → PointStands earlier points self.old
-            → let point = point_at part.now in
-            PointStands (earlier ++ point_events points point) (point ∷ points) self.new }
+        ensures events { CodesPoint self.old (point_at part.now) encoder.old encoder.new }
+        ensures stands { StandsWithPoint self.old (point_at part.now) self.new }
     {
         self.code_for::<()>(encoder, part);
     }
@@ -77,11 +68,8 @@ impl Point10 {
         requires part { length part.now ≡ 20 }
         requires left { 69 ≤ encoder.old.left }
         ensures used { encoder.old.left ≤ encoder.new.left + 69 }
-        ensures events { (earlier : List Event) (points : List Point) → PointStands earlier points self.old
-            → Codes encoder.old encoder.new (cuts_after earlier (point_events points (point_at part.now))) }
-        ensures stands { (earlier : List Event) (points : List Point) → PointStands earlier points self.old
-            → let point = point_at part.now in
-            PointStands (earlier ++ point_events points point) (point ∷ points) self.new }
+        ensures events { CodesPoint self.old (point_at part.now) encoder.old encoder.new }
+        ensures stands { StandsWithPoint self.old (point_at part.now) self.new }
     {
         let point = Point::of(part);
         put_point::<M>(encoder, &mut self.models, &self.history, &point);
@@ -97,15 +85,9 @@ impl Point10 {
         requires part { length part.old ≡ 20 }
         ensures part { length part.new ≡ 20 }
         ensures good { OnOk result (decoder.new.failed ≡ false) }
-        ensures reads { (earlier : List Event) (points : List Point) → PointStands earlier points self.old
-            → MatchResult result (λ _. ReadsPoint earlier points (point_at part.new) decoder.old decoder.new self.new)
-            (λ _. Refuses (IsSpelledPoint points) (spelled_cuts earlier) decoder.old decoder.new) }
-        ensures only { (earlier : List Event) (points : List Point) → PointStands earlier points self.old
-            → (sizes : Name → ℕ) → HasPointSizes sizes → AreRanged sizes earlier
-            → OnOk result (OneBegins (IsSpelledPoint points) earlier decoder.old (point_at part.new)) }
-        ensures none { (earlier : List Event) (points : List Point) → PointStands earlier points self.old
-            → (sizes : Name → ℕ) → HasPointSizes sizes → AreRanged sizes earlier
-            → OnErr result (NoneBegins (IsSpelledPoint points) (spelled_cuts earlier) decoder.old) }
+        ensures reads { ReadsNextPoint result self.old (point_at part.new) decoder.old decoder.new self.new }
+        ensures only { OnlyPointBegins result self.old (point_at part.new) decoder.old }
+        ensures none { NoPointBegins result self.old decoder.old }
     {
         let point = take_point(decoder, &mut self.models, &self.history)?;
         point.put(part);

@@ -1,14 +1,10 @@
 //! A point read: the symbol of changes, the fields that it marks, and the place.
-ghost use Rattle.std.specs.Prelude.{◌≡◌, ◌<◌, ◌≤◌, ℕ, false, length, IfOk, MatchResult, OnOk};
-ghost use Rattle.laz_range.specs.Decoding.{Reads, Takes, TakesNone};
-ghost use Rattle.laz_integer.specs.Corrector.{corrected};
-ghost use Rattle.laz_integer.specs.Fields.{word_value};
+ghost use Rattle.std.specs.Prelude.{◌≡◌, ◌<◌, ◌≤◌, false, length, IfOk};
+ghost use Rattle.laz_range.specs.Decoding.{Reads};
 ghost use Rattle.laz_integer.specs.Bytes.{has_bit};
 ghost use Rattle.laz_point10.specs.Groups.{AreHeadModels, ArePlaceModels, AreScanModels, AreSurfaceModels, IsHead};
-ghost use Rattle.laz_point10.specs.Groups.{IsPlace, IsScan, IsSurface, PlaceChoice, head_cuts, head_next, place_cuts};
-ghost use Rattle.laz_point10.specs.Groups.{place_next, scan_cuts, scan_next, surface_cuts, surface_next};
-ghost use Rattle.laz_point10.specs.Coded.{AreModels, IsHistory, IsPointChoice, PointChoice, choice_cuts, choice_next};
-ghost use Rattle.laz_point10.specs.Coded.{point_made};
+ghost use Rattle.laz_point10.specs.Groups.{head_cuts, head_next};
+ghost use Rattle.laz_point10.specs.Coded.{AreModels, IsHistory, ReadsPlace, ReadsPointAfter, ReadsScan, ReadsSurface};
 
 use crate::history::{History, Predictions};
 use crate::models::{HeadModels, Models, PlaceModels, ScanModels, SurfaceModels};
@@ -55,13 +51,7 @@ fn take_surface(
     requires good { decoder.old.failed ≡ false }
     requires within { decoder.old.taken ≤ length decoder.old.bytes }
     requires models { AreSurfaceModels models.old }
-    ensures reads { MatchResult result
-        (λ r. (w : ℕ × ℕ) × Takes (IsSurface e.now changes)
-        (surface_cuts models.old e.now changes flags) decoder.old decoder.new (w, r.1)
-        × (r.0 ≡ word_value (has_bit 16 changes) e.now.intensity w)
-        × (models.new ≡ surface_next models.old e.now changes flags (w, r.1)))
-        (λ _. TakesNone (IsSurface e.now changes)
-        (surface_cuts models.old e.now changes flags) decoder.old decoder.new) }
+    ensures reads { ReadsSurface result e.now changes flags models.old decoder.old decoder.new models.new }
     ensures models { AreSurfaceModels models.new }
 {
     let context = intensity_context(flags);
@@ -96,12 +86,7 @@ fn take_scan(
     requires good { decoder.old.failed ≡ false }
     requires within { decoder.old.taken ≤ length decoder.old.bytes }
     requires models { AreScanModels models.old }
-    ensures reads { MatchResult result
-        (λ r. (w : ℕ × ℕ) × Takes (IsScan e.now changes)
-        (scan_cuts models.old e.now changes flags) decoder.old decoder.new (r.0, (r.1, w))
-        × (r.2 ≡ word_value (has_bit 1 changes) e.now.previous.point_source w)
-        × (models.new ≡ scan_next models.old e.now changes flags (r.0, (r.1, w))))
-        (λ _. TakesNone (IsScan e.now changes) (scan_cuts models.old e.now changes flags) decoder.old decoder.new) }
+    ensures reads { ReadsScan result e.now changes flags models.old decoder.old decoder.new models.new }
     ensures models { AreScanModels models.new }
 {
     let turned = take_byte(
@@ -139,12 +124,7 @@ fn take_place(
 ) -> Result<(i32, i32, i32), Bad>
     requires good { decoder.old.failed ≡ false }
     requires models { ArePlaceModels models.old }
-    ensures reads { MatchResult result
-        (λ r. (x : PlaceChoice) × Takes IsPlace (place_cuts models.old flags) decoder.old decoder.new x
-        × ((r.0 ≡ corrected 32 e.now.dx x.0.0 x.0.1) × (r.1 ≡ corrected 32 e.now.dy x.1.0.0 x.1.0.1)
-        × (r.2 ≡ corrected 32 e.now.z x.1.1.0 x.1.1.1))
-        × (models.new ≡ place_next models.old flags x))
-        (λ _. TakesNone IsPlace (place_cuts models.old flags) decoder.old decoder.new) }
+    ensures reads { ReadsPlace result e.now flags models.old decoder.old decoder.new models.new }
     ensures models { ArePlaceModels models.new }
 {
     let one = one_return(flags);
@@ -166,12 +146,7 @@ pub fn take_point(
 ) -> Result<Point, Bad>
     requires good { decoder.old.failed ≡ false }
     requires models { AreModels models.old }
-    ensures reads { MatchResult result
-        (λ p. (x : PointChoice) × Takes (IsPointChoice history.now)
-        (choice_cuts models.old history.now) decoder.old decoder.new x
-        × (p ≡ point_made history.now x)
-        × (models.new ≡ choice_next models.old history.now x))
-        (λ _. TakesNone (IsPointChoice history.now) (choice_cuts models.old history.now) decoder.old decoder.new) }
+    ensures reads { ReadsPointAfter result history.now models.old decoder.old decoder.new models.new }
     ensures models { AreModels models.new }
     ensures bytes { IsHistory history.now }
 {

@@ -1,15 +1,17 @@
 -- The parts that a colour's events cut out, by the models as they are, and the models after them.
-use Rattle.std.specs.Prelude.{ℕ, ◌+◌, ◌<◌, Bool, false, if◌then◌else◌, List, [], ◌∷◌, ◌++◌, slice_set}
-use Rattle.std.specs.Prelude.{slice_index_or}
+use Rattle.std.specs.Prelude.{◌≡◌, ℕ, ◌+◌, ◌<◌, Bool, false, if◌then◌else◌, List, [], ◌∷◌, ◌++◌, slice_set}
+use Rattle.std.specs.Prelude.{MatchResult, Result, slice_index_or}
 use Rattle.laz_range.specs.Cut.{Cut}
 use Rattle.laz_range.specs.Choice.{all_cuts, state_after}
+use Rattle.laz_range.specs.Decoding.{Decoding, Takes, TakesNone}
 use Rattle.laz_models.specs.Counting.{Counting, after_symbol}
 use Rattle.laz_models.specs.Bank.{model_at}
 use Rattle.laz_integer.specs.Integer.{symbol_cut}
-use Rattle.laz_rgb.specs.Rows.{next_cuts, next_row, row_at}
+use Rattle.laz_rgb.specs.Rows.{byte_of, next_cuts, next_row, row_at}
 use Rattle.laz_integer.specs.Fields.{IsByte, byte_cuts, byte_next}
 use Rattle.laz_rgb.specs.declared.colour.Colour.{Colour}
-use Rattle.laz_rgb.specs.Colours.{colour_marks}
+use Rattle.laz_rgb.specs.declared.reading.GreenBlue.{GreenBlue}
+use Rattle.laz_rgb.specs.Colours.{colour_made, colour_marks, predicted_blue, predicted_green}
 use Rattle.laz_integer.specs.Bytes.{has_bit}
 
 -- The models after the symbol of changes.
@@ -93,3 +95,42 @@ colour_with s red low high =
       blue_low = if has_bit 64 s then low.1 else red.0;
       blue_high = if has_bit 64 s then high.1 else red.1;
     }
+
+-- ---- what is answered: what is read makes the answer and the models, or none of it begins the rest of the bytes
+
+-- A byte under model m, by its mark, its prediction and the previous byte.
+abbrev pub ReadsByte : {E : Type 0} → Result ℕ E → (bank : List Counting) → (m : ℕ) → Bool → (predicted previous : ℕ)
+    → Decoding → Decoding → (next : List Counting) → Type 0
+ReadsByte result bank m marked predicted previous old new next =
+    MatchResult result
+    (λ byte. (s : ℕ) × Takes (IsByte marked 0) (byte_cuts marked bank m) old new s
+    × (byte ≡ byte_of marked predicted previous s) × (next ≡ byte_next marked bank m s))
+    (λ _. TakesNone (IsByte marked 0) (byte_cuts marked bank m) old new)
+
+-- Two bytes under models m and m + 1, by their marks, and what their symbols make of them.
+abbrev pub ReadsTwo : {E : Type 0} → Result (ℕ × ℕ) E → (bank : List Counting) → (m : ℕ) → (s t : Bool)
+    → (makes : ℕ × ℕ → ℕ × ℕ → Type 0) → Decoding → Decoding → (next : List Counting) → Type 0
+ReadsTwo result bank m s t makes old new next =
+    MatchResult result
+    (λ r. (x : ℕ × ℕ) × Takes (IsTwo s t) (two_cuts s t bank m) old new x × makes r x × (next ≡ two_next s t bank m x))
+    (λ _. TakesNone (IsTwo s t) (two_cuts s t bank m) old new)
+
+-- A colour after another.
+abbrev pub ReadsColourAfter : {E : Type 0} → Result Colour E → (last : Colour) → (bank : List Counting)
+    → Decoding → Decoding → (next : List Counting) → Type 0
+ReadsColourAfter result last bank old new next =
+    MatchResult result
+    (λ colour. (x : ColourChoice) × Takes IsColourChoice (choice_cuts bank) old new x
+    × (colour ≡ colour_made x.0 last (choice_symbols x)) × (next ≡ choice_next bank x))
+    (λ _. TakesNone IsColourChoice (choice_cuts bank) old new)
+
+-- The bytes of red that two symbols make.
+abbrev pub MakesRed : (low high : Bool) → (last : Colour) → (red symbols : ℕ × ℕ) → Type 0
+MakesRed low high last r x =
+    (r.0 ≡ byte_of low last.red_low last.red_low x.0) × (r.1 ≡ byte_of high last.red_high last.red_high x.1)
+
+-- The bytes of green and blue that two symbols make.
+abbrev pub MakesGreenBlue : GreenBlue → (bytes symbols : ℕ × ℕ) → Type 0
+MakesGreenBlue q r x =
+    (r.0 ≡ byte_of q.green_marked (predicted_green q.red_from q.red_to q.green_from) q.green_from x.0)
+    × (r.1 ≡ byte_of q.blue_marked (predicted_blue q.red_from q.red_to q.green_from r.0 q.blue_from) q.blue_from x.1)

@@ -1,9 +1,12 @@
 -- Extra bytes of records: each is coded as its difference to the same byte of the record before (LASzip's BYTE, version
 -- 2).
-use Rattle.std.specs.Prelude.{◌≡◌, ℕ, Bool, true, List, [], ◌∷◌, length, replicate}
+use Rattle.std.specs.Prelude.{◌≡◌, ℕ, Bool, true, List, [], ◌∷◌, length, replicate, MatchResult, Result}
 use Rattle.laz_integer.specs.Events.{Event}
-use Rattle.laz_rgb.specs.Rows.{IsRow, byte_of, row_events}
+use Rattle.laz_rgb.specs.Rows.{IsRow, byte_of, row_events, IsNextByte, next_cuts, next_row, row_at}
 use Rattle.laz_integer.specs.Bytes.{byte_difference}
+use Rattle.laz_range.specs.Choice.{AreAsked, all_cuts, state_after}
+use Rattle.laz_range.specs.Decoding.{Decoding, Refuses, Takes}
+use Rattle.laz_models.specs.Counting.{Counting}
 
 -- The use of the models of extra bytes: "byte".
 abbrev pub byte_kind : List ℕ
@@ -33,3 +36,13 @@ pub record SpellsExtra (last : List ℕ) (events : List Event) (now : List ℕ) 
   pub row : IsRow (all_marked (length last)) symbols
   pub is : events ≡ row_events byte_kind (all_marked (length last)) 0 symbols
   pub makes : now ≡ extra_made last symbols
+
+-- The extra bytes of a record are read after the last ones, or no row of them begins the rest of the bytes.
+abbrev pub ReadsRow : {E : Type 0} → Result (Unit {0}) E → (last part : List ℕ) → (bank : List Counting) → Decoding
+    → Decoding → (next : List Counting) → Type 0
+ReadsRow result last part bank old new next =
+    let row = row_at (all_marked (length last)) 0 bank in
+    MatchResult result
+    (λ _. (xs : List ℕ) × Takes (AreAsked next_row IsNextByte row (length last)) (all_cuts next_row next_cuts row)
+    old new xs × (part ≡ extra_made last xs) × (next ≡ (state_after next_row row xs).bank))
+    (λ _. Refuses (AreAsked next_row IsNextByte row (length last)) (all_cuts next_row next_cuts row) old new)

@@ -1,17 +1,13 @@
 //! The item BYTE.
-ghost use Rattle.std.specs.Prelude.{◌≡◌, ◌<◌, ◌≤◌, ◌+◌, ◌*◌, ◌++◌, [], ◌∷◌, List, ℕ, length, vec_len, false, true};
-ghost use Rattle.std.specs.Prelude.{IfOk, MatchResult, OnErr, OnOk};
+ghost use Rattle.std.specs.Prelude.{◌≡◌, ◌<◌, ◌≤◌, ◌+◌, ◌*◌, [], ◌∷◌, length, false, true};
+ghost use Rattle.std.specs.Prelude.{IfOk, OnOk};
 ghost use Rattle.laz_range.specs.Coding.{Codes};
-ghost use Rattle.laz_range.specs.Choice.{AreAsked, all_cuts, state_after};
-ghost use Rattle.laz_range.specs.Decoding.{NoneBegins, Refuses, Takes};
+ghost use Rattle.laz_range.specs.Choice.{all_cuts, state_after};
 ghost use Rattle.laz_models.specs.Bank.{alphabet_sizes};
-ghost use Rattle.laz_integer.specs.Events.{Event, Name, cuts_after};
-ghost use Rattle.laz_integer.specs.Ranged.{AreRanged};
-ghost use Rattle.laz_rgb.specs.Rows.{AreRowModels, IsNextByte, byte_of, next_cuts, next_row, row_at};
-ghost use Rattle.laz_rgb.specs.Extra.{all_marked, extra_events, extra_made, extra_symbols};
-ghost use Rattle.laz_rgb.specs.Items.{ExtraStands, HasExtraSizes, IsSpelledExtra, ReadsExtra, latest_extra};
-ghost use Rattle.laz_integer.specs.Spelled.{OneBegins};
-ghost use Rattle.laz_integer.specs.Spelled.{spelled_cuts};
+ghost use Rattle.laz_rgb.specs.Rows.{AreRowModels, byte_of, next_cuts, next_row, row_at};
+ghost use Rattle.laz_rgb.specs.Extra.{all_marked, extra_symbols, ReadsRow};
+ghost use Rattle.laz_rgb.specs.Items.{ExtraStands, CodesExtra, NoExtraBegins, OnlyExtraBegins, ReadsNextExtra};
+ghost use Rattle.laz_rgb.specs.Items.{StandsWithExtra};
 
 use crate::writing::byte_difference;
 use laz_integer::{put_byte, take_byte, take_symbol_of};
@@ -88,13 +84,7 @@ fn take_bytes(
     requires part { length part.old ≡ length last.now }
     requires few { length last.now < 193 }
     requires models { AreRowModels (length last.now) 0 bank.old }
-    ensures reads { let row = row_at (all_marked (length last.now)) 0 bank.old in
-        MatchResult result (λ _. (xs : List ℕ)
-        × Takes (AreAsked next_row IsNextByte row (length last.now))
-        (all_cuts next_row next_cuts row) decoder.old decoder.new xs × (part.new ≡ extra_made last.now xs)
-        × (bank.new ≡ (state_after next_row row xs).bank))
-        (λ _. Refuses (AreAsked next_row IsNextByte row (length last.now))
-        (all_cuts next_row next_cuts row) decoder.old decoder.new) }
+    ensures reads { ReadsRow result last.now part.new bank.old decoder.old decoder.new bank.new }
     ensures good { OnOk result (decoder.new.failed ≡ false) }
     ensures sizes { alphabet_sizes bank.new ≡ alphabet_sizes bank.old }
 {
@@ -136,10 +126,8 @@ impl Bytes {
         requires left { 3 * length self.old.last ≤ encoder.old.left }
         ensures extra { length self.new.last ≡ length self.old.last }
         ensures used { encoder.old.left ≤ encoder.new.left + 3 * length self.old.last }
-        ensures events { (earlier : List Event) (extras : List (List ℕ)) → ExtraStands earlier extras self.old
-            → Codes encoder.old encoder.new (cuts_after earlier (extra_events (latest_extra extras) part.now)) }
-        ensures stands { (earlier : List Event) (extras : List (List ℕ)) → ExtraStands earlier extras self.old
-            → ExtraStands (earlier ++ extra_events (latest_extra extras) part.now) (part.now ∷ extras) self.new }
+        ensures events { CodesExtra self.old part.now encoder.old encoder.new }
+        ensures stands { StandsWithExtra self.old part.now self.new }
     {
         put_bytes(encoder, &mut self.bank, &self.last, part);
         self.last.copy_from_slice(part);
@@ -154,15 +142,9 @@ impl Bytes {
         ensures part { length part.new ≡ length part.old }
         ensures extra { length self.new.last ≡ length self.old.last }
         ensures good { OnOk result (decoder.new.failed ≡ false) }
-        ensures reads { (earlier : List Event) (extras : List (List ℕ)) → ExtraStands earlier extras self.old
-            → MatchResult result (λ _. ReadsExtra earlier extras part.new decoder.old decoder.new self.new)
-            (λ _. Refuses (IsSpelledExtra extras) (spelled_cuts earlier) decoder.old decoder.new) }
-        ensures only { (earlier : List Event) (extras : List (List ℕ)) → ExtraStands earlier extras self.old
-            → (sizes : Name → ℕ) → HasExtraSizes sizes (length part.old) → AreRanged sizes earlier
-            → OnOk result (OneBegins (IsSpelledExtra extras) earlier decoder.old part.new) }
-        ensures none { (earlier : List Event) (extras : List (List ℕ)) → ExtraStands earlier extras self.old
-            → (sizes : Name → ℕ) → HasExtraSizes sizes (length part.old) → AreRanged sizes earlier
-            → OnErr result (NoneBegins (IsSpelledExtra extras) (spelled_cuts earlier) decoder.old) }
+        ensures reads { ReadsNextExtra result self.old part.new decoder.old decoder.new self.new }
+        ensures only { OnlyExtraBegins result self.old (length part.old) part.new decoder.old }
+        ensures none { NoExtraBegins result self.old (length part.old) decoder.old }
     {
         take_bytes(decoder, &mut self.bank, &self.last, part)?;
         self.last.copy_from_slice(part);

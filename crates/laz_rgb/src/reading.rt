@@ -1,13 +1,9 @@
 //! A colour read: the symbol of changes, and the bytes that it marks.
-ghost use Rattle.std.specs.Prelude.{◌≡◌, ◌+◌, ◌<◌, ◌≤◌, ◌∷◌, ◌++◌, [], ℕ, false, length, replicate, IfOk, MatchResult};
-ghost use Rattle.std.specs.Prelude.{OnOk};
-ghost use Rattle.laz_range.specs.Decoding.{Takes, TakesNone};
+ghost use Rattle.std.specs.Prelude.{◌≡◌, ◌+◌, ◌<◌, ◌≤◌, ◌∷◌, false, length, replicate};
 ghost use Rattle.laz_models.specs.Bank.{alphabet_sizes};
-ghost use Rattle.laz_integer.specs.Fields.{IsByte, byte_cuts, byte_next};
-ghost use Rattle.laz_rgb.specs.Rows.{AreRowModels, byte_of};
-ghost use Rattle.laz_rgb.specs.Colours.{colour_made, predicted_blue, predicted_green};
-ghost use Rattle.laz_rgb.specs.Coded.{colour_with, ColourChoice, IsColourChoice, IsTwo, choice_cuts, choice_next};
-ghost use Rattle.laz_rgb.specs.Coded.{choice_symbols, two_cuts, two_next};
+ghost use Rattle.laz_rgb.specs.Rows.{AreRowModels};
+ghost use Rattle.laz_rgb.specs.Colours.{predicted_blue};
+ghost use Rattle.laz_rgb.specs.Coded.{colour_with, MakesGreenBlue, MakesRed, ReadsByte, ReadsColourAfter, ReadsTwo};
 
 use crate::colour::Colour;
 use crate::writing::{colour_marks, moved, predicted_blue};
@@ -28,10 +24,7 @@ fn take_next(
     requires good { decoder.old.failed ≡ false }
     requires within { decoder.old.taken ≤ length decoder.old.bytes }
     requires models { AreRowModels 1 m bank.old }
-    ensures reads { MatchResult result
-        (λ byte. (s : ℕ) × Takes (IsByte marked 0) (byte_cuts marked bank.old m) decoder.old decoder.new s
-        × (byte ≡ byte_of marked predicted previous s) × (bank.new ≡ byte_next marked bank.old m s))
-        (λ _. TakesNone (IsByte marked 0) (byte_cuts marked bank.old m) decoder.old decoder.new) }
+    ensures reads { ReadsByte result bank.old m marked predicted previous decoder.old decoder.new bank.new }
     ensures sizes { alphabet_sizes bank.new ≡ alphabet_sizes bank.old }
 {
     let symbol = take_byte(decoder, bank, marked, m, 0)?;
@@ -53,11 +46,7 @@ fn take_red(
     requires good { decoder.old.failed ≡ false }
     requires within { decoder.old.taken ≤ length decoder.old.bytes }
     requires sizes { alphabet_sizes bank.old ≡ 128 ∷ replicate 6 256 }
-    ensures reads { MatchResult result
-        (λ r. (x : ℕ × ℕ) × Takes (IsTwo low high) (two_cuts low high bank.old 1) decoder.old decoder.new x
-        × (r.0 ≡ byte_of low last.now.red_low last.now.red_low x.0)
-        × (r.1 ≡ byte_of high last.now.red_high last.now.red_high x.1) × (bank.new ≡ two_next low high bank.old 1 x))
-        (λ _. TakesNone (IsTwo low high) (two_cuts low high bank.old 1) decoder.old decoder.new) }
+    ensures reads { ReadsTwo result bank.old 1 low high (MakesRed low high last.now) decoder.old decoder.new bank.new }
     ensures sizes { alphabet_sizes bank.new ≡ alphabet_sizes bank.old }
 {
     let first = take_next(decoder, bank, 1, low, last.red_low, last.red_low)?;
@@ -89,14 +78,8 @@ fn take_green_blue(
     requires within { decoder.old.taken ≤ length decoder.old.bytes }
     requires models { AreRowModels 2 m bank.old }
     requires few { m < 1024 }
-    ensures reads { MatchResult result
-        (λ r. (x : ℕ × ℕ) × Takes (IsTwo q.green_marked q.blue_marked)
-        (two_cuts q.green_marked q.blue_marked bank.old m) decoder.old decoder.new x
-        × (r.0 ≡ byte_of q.green_marked (predicted_green q.red_from q.red_to q.green_from) q.green_from x.0)
-        × (r.1 ≡ byte_of q.blue_marked (predicted_blue q.red_from q.red_to q.green_from r.0 q.blue_from) q.blue_from x.1)
-        × (bank.new ≡ two_next q.green_marked q.blue_marked bank.old m x))
-        (λ _. TakesNone (IsTwo q.green_marked q.blue_marked)
-        (two_cuts q.green_marked q.blue_marked bank.old m) decoder.old decoder.new) }
+    ensures reads { ReadsTwo result bank.old m q.green_marked q.blue_marked (MakesGreenBlue q)
+        decoder.old decoder.new bank.new }
     ensures sizes { alphabet_sizes bank.new ≡ alphabet_sizes bank.old }
 {
     let predicted = moved(q.red_from, q.red_to, q.green_from);
@@ -131,10 +114,7 @@ pub(crate) fn take_colour<M>(
 ) -> Result<Colour, Bad>
     requires good { decoder.old.failed ≡ false }
     requires sizes { alphabet_sizes bank.old ≡ 128 ∷ replicate 6 256 }
-    ensures reads { MatchResult result
-        (λ colour. (x : ColourChoice) × Takes IsColourChoice (choice_cuts bank.old) decoder.old decoder.new x
-        × (colour ≡ colour_made x.0 last.now (choice_symbols x)) × (bank.new ≡ choice_next bank.old x))
-        (λ _. TakesNone IsColourChoice (choice_cuts bank.old) decoder.old decoder.new) }
+    ensures reads { ReadsColourAfter result last.now bank.old decoder.old decoder.new bank.new }
     ensures sizes { alphabet_sizes bank.new ≡ alphabet_sizes bank.old }
 {
     let symbol = take_frequent_symbol_of(decoder, bank, 0)?;

@@ -1,14 +1,9 @@
 //! The item RGB12.
-ghost use Rattle.std.specs.Prelude.{◌≡◌, ◌<◌, ◌≤◌, ◌+◌, ◌++◌, [], ◌∷◌, List, ℕ, length, false, MatchResult, OnErr};
+ghost use Rattle.std.specs.Prelude.{◌≡◌, ◌<◌, ◌≤◌, ◌+◌, [], ◌∷◌, length, false};
 ghost use Rattle.std.specs.Prelude.{OnOk};
-ghost use Rattle.laz_range.specs.Coding.{Codes};
-ghost use Rattle.laz_range.specs.Decoding.{NoneBegins, Refuses};
-ghost use Rattle.laz_integer.specs.Events.{Event, Name, cuts_after};
-ghost use Rattle.laz_integer.specs.Ranged.{AreRanged};
-ghost use Rattle.laz_rgb.specs.Colours.{colour_at, colour_events};
-ghost use Rattle.laz_rgb.specs.Items.{HasRgbSizes, IsSpelledColour, ReadsColour, RgbStands, latest_colour};
-ghost use Rattle.laz_integer.specs.Spelled.{OneBegins};
-ghost use Rattle.laz_integer.specs.Spelled.{spelled_cuts};
+ghost use Rattle.laz_rgb.specs.Colours.{colour_at};
+ghost use Rattle.laz_rgb.specs.Items.{RgbStands, CodesColour, NoColourBegins, OnlyColourBegins, ReadsNextColour};
+ghost use Rattle.laz_rgb.specs.Items.{StandsWithColour};
 
 use crate::colour::Colour;
 use crate::reading::take_colour;
@@ -69,12 +64,8 @@ impl Rgb {
         requires part { length part.now ≡ 6 }
         requires left { 21 ≤ encoder.old.left }
         ensures used { encoder.old.left ≤ encoder.new.left + 21 }
-        ensures events { (earlier : List Event) (colours : List Colour) → RgbStands earlier colours self.old
-            → Codes encoder.old encoder.new
-            (cuts_after earlier (colour_events (latest_colour colours) (colour_at part.now))) }
-        ensures stands { (earlier : List Event) (colours : List Colour) → RgbStands earlier colours self.old
-            → let colour = colour_at part.now in
-            RgbStands (earlier ++ colour_events (latest_colour colours) colour) (colour ∷ colours) self.new }
+        ensures events { CodesColour self.old (colour_at part.now) encoder.old encoder.new }
+        ensures stands { StandsWithColour self.old (colour_at part.now) self.new }
     {
         let now = Colour::of(part);
         put_colour(encoder, &mut self.bank, &self.last, &now);
@@ -89,16 +80,9 @@ impl Rgb {
         requires part { length part.old ≡ 6 }
         ensures part { length part.new ≡ 6 }
         ensures good { OnOk result (decoder.new.failed ≡ false) }
-        ensures reads { (earlier : List Event) (colours : List Colour) → RgbStands earlier colours self.old
-            → MatchResult result (λ _. ReadsColour earlier colours
-            (colour_at part.new) decoder.old decoder.new self.new)
-            (λ _. Refuses (IsSpelledColour colours) (spelled_cuts earlier) decoder.old decoder.new) }
-        ensures only { (earlier : List Event) (colours : List Colour) → RgbStands earlier colours self.old
-            → (sizes : Name → ℕ) → HasRgbSizes sizes → AreRanged sizes earlier
-            → OnOk result (OneBegins (IsSpelledColour colours) earlier decoder.old (colour_at part.new)) }
-        ensures none { (earlier : List Event) (colours : List Colour) → RgbStands earlier colours self.old
-            → (sizes : Name → ℕ) → HasRgbSizes sizes → AreRanged sizes earlier
-            → OnErr result (NoneBegins (IsSpelledColour colours) (spelled_cuts earlier) decoder.old) }
+        ensures reads { ReadsNextColour result self.old (colour_at part.new) decoder.old decoder.new self.new }
+        ensures only { OnlyColourBegins result self.old (colour_at part.new) decoder.old }
+        ensures none { NoColourBegins result self.old decoder.old }
     {
         self.read_for::<()>(decoder, part)
     }
@@ -110,16 +94,9 @@ impl Rgb {
         requires part { length part.old ≡ 6 }
         ensures part { length part.new ≡ 6 }
         ensures good { OnOk result (decoder.new.failed ≡ false) }
-        ensures reads { (earlier : List Event) (colours : List Colour) → RgbStands earlier colours self.old
-            → MatchResult result (λ _. ReadsColour earlier colours
-            (colour_at part.new) decoder.old decoder.new self.new)
-            (λ _. Refuses (IsSpelledColour colours) (spelled_cuts earlier) decoder.old decoder.new) }
-        ensures only { (earlier : List Event) (colours : List Colour) → RgbStands earlier colours self.old
-            → (sizes : Name → ℕ) → HasRgbSizes sizes → AreRanged sizes earlier
-            → OnOk result (OneBegins (IsSpelledColour colours) earlier decoder.old (colour_at part.new)) }
-        ensures none { (earlier : List Event) (colours : List Colour) → RgbStands earlier colours self.old
-            → (sizes : Name → ℕ) → HasRgbSizes sizes → AreRanged sizes earlier
-            → OnErr result (NoneBegins (IsSpelledColour colours) (spelled_cuts earlier) decoder.old) }
+        ensures reads { ReadsNextColour result self.old (colour_at part.new) decoder.old decoder.new self.new }
+        ensures only { OnlyColourBegins result self.old (colour_at part.new) decoder.old }
+        ensures none { NoColourBegins result self.old decoder.old }
     {
         let colour = take_colour::<M>(decoder, &mut self.bank, &self.last)?;
         self.last = colour;

@@ -1,5 +1,6 @@
 -- Tables entry by entry: what has been written of one, and what has been read.
-use Rattle.std.specs.Prelude.{◌≤◌, length, if◌then◌else◌, ◌≡◌, ℕ, Bool, true, false, not, List, [], ◌∷◌}
+use Rattle.std.specs.Prelude.{◌≤◌, length, if◌then◌else◌, ◌≡◌, ℕ, Bool, true, false, not, List, [], ◌∷◌, MatchResult}
+use Rattle.std.specs.Prelude.{Result}
 use Rattle.std.specs.Int.{w32, cast_unsigned}
 use Rattle.laz_range.specs.Cut.{Cut}
 use Rattle.laz_range.specs.Choice.{AreAsked, all_cuts}
@@ -103,6 +104,18 @@ IsFault Table P = P
 IsFault ChunkSum P = ⊥
 IsFault PointSum P = ⊥
 IsFault Memory P = Unit {0}
+
+-- no number of its kind begins what a decoder had left
+abbrev pub NoNumber : (counts_points : Bool) → IntState → Decoding → Decoding → Type 0
+NoNumber counts_points models old new =
+    TakesNone (IsCorrector 32) (λ y. int_cuts models (context_of counts_points) y.0 y.1) old new
+
+-- a list of n entries is read, or none begins what a decoder had left, or memory ran out
+abbrev pub ReadsList : {X : Type 0} → Result X TableFault → (entries : X → List Entry) → TableState → (n : ℕ)
+    → Decoding → Decoding → Type 0
+ReadsList result entries st n old new =
+    MatchResult result (λ list. ReadsEntries st n old new (entries list))
+    (λ fault. IsFault fault (NoEntries st n old new))
 
 -- ---- whole tables
 -- lists of n chunks of this kind

@@ -1,11 +1,10 @@
 //! Chunk tables, as they are read.
 
-ghost use Rattle.std.specs.Prelude.{◌≡◌, ◌*◌, ◌+◌, ◌++◌, ◌<◌, ◌≤◌, ℕ, List, [], ◌∷◌, false, true, length, IfOk};
+ghost use Rattle.std.specs.Prelude.{◌≡◌, ◌*◌, ◌+◌, ◌++◌, ◌<◌, ◌≤◌, [], ◌∷◌, false, true, length, IfOk};
 ghost use Rattle.std.specs.Prelude.{MatchResult, OnOk};
-ghost use Rattle.laz_range.specs.Decoding.{TakesNone};
-ghost use Rattle.laz_integer.specs.Integer.{IsCorrector, IsInts, int_cuts};
+ghost use Rattle.laz_integer.specs.Integer.{IsInts};
 ghost use Rattle.laz_table.specs.Entries.{context_of, entries_of};
-ghost use Rattle.laz_table.specs.Steps.{IsFault, NoEntries, ReadsEntries, ReadsNumber, table_start};
+ghost use Rattle.laz_table.specs.Steps.{IsFault, ReadsNumber, table_start, NoNumber, ReadsList};
 
 use crate::chunks::{ChunkList, TableFault};
 use crate::entries::context_of;
@@ -25,8 +24,7 @@ fn take_number(
     ensures models { IsInts 32 2 model.new }
     ensures reads { MatchResult result
         (λ number. ReadsNumber counts_points before number model.old model.new decoder.old decoder.new)
-        (λ _. TakesNone (IsCorrector 32)
-        (λ y. int_cuts model.old (context_of counts_points) y.0 y.1) decoder.old decoder.new) }
+        (λ _. NoNumber counts_points model.old decoder.old decoder.new) }
     ensures good { OnOk result (decoder.new.failed ≡ false) }
 {
     let context = context_of(counts_points);
@@ -46,10 +44,8 @@ fn take_next(
     requires models { IsInts 32 2 model.old }
     ensures models { IsInts 32 2 model.new }
     ensures reads { MatchResult result
-        (λ number. ReadsNumber counts_points before number model.old model.new decoder.old decoder.new)
-        (λ fault. IsFault fault
-        (TakesNone (IsCorrector 32)
-        (λ y. int_cuts model.old (context_of counts_points) y.0 y.1) decoder.old decoder.new)) }
+        (λ n. ReadsNumber counts_points before n model.old model.new decoder.old decoder.new)
+        (λ fault. IsFault fault (NoNumber counts_points model.old decoder.old decoder.new)) }
     ensures good { OnOk result (decoder.new.failed ≡ false) }
     ensures items { IfOk result (λ number. numbers.new.items ≡ numbers.old.items ++ number ∷ []) }
 {
@@ -73,10 +69,8 @@ pub fn take_counts(
     requires within { decoder.old.taken ≤ length decoder.old.bytes }
     requires models { IsInts 32 2 model.old }
     ensures len { IfOk result (λ counts. length counts.items ≡ chunks) }
-    ensures reads { MatchResult result
-        (λ counts. ReadsEntries (table_start model.old false) chunks decoder.old decoder.new
-        (entries_of [] counts.items))
-        (λ fault. IsFault fault (NoEntries (table_start model.old false) chunks decoder.old decoder.new)) }
+    ensures reads { ReadsList result (λ counts. entries_of [] counts.items) (table_start model.old false) chunks
+        decoder.old decoder.new }
 {
     let mut counts = Vec::new(alloc);
     let mut before = 0;
@@ -98,10 +92,8 @@ pub fn take_chunks(
     requires models { IsInts 32 2 model.old }
     ensures counts { IfOk result (λ list. length list.counts.items ≡ chunks) }
     ensures sizes { IfOk result (λ list. length list.sizes.items ≡ chunks) }
-    ensures reads { MatchResult result
-        (λ list. ReadsEntries (table_start model.old true) (2 * chunks) decoder.old decoder.new
-        (entries_of list.sizes.items list.counts.items))
-        (λ fault. IsFault fault (NoEntries (table_start model.old true) (2 * chunks) decoder.old decoder.new)) }
+    ensures reads { ReadsList result (λ list. entries_of list.sizes.items list.counts.items)
+        (table_start model.old true) (2 * chunks) decoder.old decoder.new }
 {
     let mut sizes = Vec::new(alloc);
     let mut counts = Vec::new(alloc);

@@ -3,6 +3,7 @@ use Rattle.std.proofs.Common.{◌≡◌, inl, ℕ, ◌+◌, ◌*◌, ◌<◌, �
 use Rattle.std.proofs.lemmas.List.{take_min, take-append-le}
 use Rattle.byteorder.specs.Endian.{little_bytes}
 use Rattle.std.specs.List.{concat}
+use Rattle.std.specs.Prelude.{Err, IfErr, IfOk, MatchResult, Ok, Result}
 use Rattle.std.specs.Option.{ForSome}
 use Rattle.std.proofs.Math.Nat.{one-le-mul}
 use Rattle.las_header.specs.Fields.{record_length_of}
@@ -70,3 +71,8 @@ stopped_short out chunk records more n is some packed =
     let short : m ≤ length text = omega arith in
     let longer : length (draft_of out (records ++ more)) ≡ length text + length b.0 = ap (λ (t : List ℕ). length t) draft ∙ length-append text b.0 in
     (m, omega (arith, longer, b.2), sym (take_min n text) ∙ sym (take-append-le m text b.0 short) ∙ ap (take m) (sym draft))
+
+-- what holds of a result, by its two cases
+pub either : {T E : Type 0} (P : T → Type 0) (Q : E → Type 0) (r : Result T E) → IfOk r P → IfErr r Q → MatchResult r P Q
+either P Q (Ok x) ok err = ok
+either P Q (Err x) ok err = err

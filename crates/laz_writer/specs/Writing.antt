@@ -1,5 +1,7 @@
 -- What a writer of an output stands for, from call to call.
 use Rattle.std.specs.Prelude.{◌≡◌, ◌⊎◌, ℕ, ◌+◌, ◌*◌, ◌/◌, ◌%◌, ◌^◌, ◌<◌, ◌≤◌, min, Bool, true, false, if◌then◌else◌}
+use Rattle.std.specs.Prelude.{MatchResult}
+use Rattle.std.specs.Prelude.{Result}
 use Rattle.std.specs.Prelude.{List, [], ◌∷◌, ◌++◌, length, map, take, Option, Some, None, All}
 use Rattle.std.specs.List.{concat}
 use Rattle.byteorder.specs.Endian.{little_bytes}
@@ -9,7 +11,7 @@ use Rattle.las_header.specs.Counting.{counts_bytes, long_counts_bytes}
 use Rattle.las_header.specs.Fields.{has_long_counts, record_length_of}
 use Rattle.las_header.specs.Heads.{IsHead}
 use Rattle.las_header.specs.Plain.{cut_records}
-use Rattle.las_outside.specs.Drafts.{IsUnfinished, Patch}
+use Rattle.las_outside.specs.Drafts.{IsUnfinished, Patch, IsPatchedInPart, with_patches}
 use Rattle.las_outside.specs.Limits.{AreWorkers, IsChunkSize}
 use Rattle.las_outside.specs.Outside.{Outside, with_bytes, with_write_fault}
 use Rattle.las_points.specs.Tally.{IsWithinPoints, counts_of}
@@ -17,8 +19,9 @@ use Rattle.laz_chunk.specs.Chunks.{chunk_bytes, count_of}
 use Rattle.laz_chunk.specs.Layouts.{Format, layout, record_length, room_for}
 use Rattle.laz_forms.specs.declared.fault.Fault.{Fault}
 use Rattle.laz_forms.specs.declared.fault.Fault.TheVariants.{Refused, Read, Write, Memory}
-use Rattle.laz_forms.specs.Outputs.{Output, draft_of, front, patches_of, records_after}
+use Rattle.laz_forms.specs.Outputs.{Output, draft_of, front, patches_of, records_after, stopped}
 use Rattle.laz_forms.specs.Packing.{format_in, blocks_of, packed_head, packed_points}
+use Rattle.las_outside.specs.Files.{with_patch}
 
 -- the answer to a block: its chunk, and never none
 abbrev pub IsChunk : Format → (block : List ℕ) → Option (List ℕ) → Type 0
@@ -57,6 +60,18 @@ FitIn text patches = All (λ patch. patch.0 + length patch.1 ≤ length text) pa
 -- The outside is another one with some text under the name.
 abbrev pub HasText : (now : Outside) → (name : List ℕ) → Type 0
 HasText now name = (before : Outside) × (text : List ℕ) × (now ≡ with_bytes before name text)
+
+-- A call makes a patch of a text, or a part of it.
+abbrev pub Patches : Result (Unit {0}) Fault → (before now : Outside) → (name text : List ℕ) → Patch → Type 0
+Patches result before now name text patch =
+    MatchResult result (λ _. now ≡ with_bytes before name (with_patch text patch.0 patch.1))
+    (λ fault. (n : ℕ) × Stops fault (with_bytes before name (with_patch text patch.0 (take n patch.1))) now)
+
+-- It makes some, which lie in the text, one after another, or the first of them, the last in part.
+abbrev pub PatchesAll : Result (Unit {0}) Fault → (before now : Outside) → (name text : List ℕ) → List Patch → Type 0
+PatchesAll result before now name text patches =
+    FitIn text patches → MatchResult result (λ _. now ≡ with_bytes before name (with_patches text patches))
+    (λ fault. (left : List ℕ) × IsPatchedInPart text patches left × Stops fault (with_bytes before name left) now)
 
 -- P holds of each other one, and of the text.
 abbrev pub OfText : (now : Outside) → (name : List ℕ) → (P : Outside → List ℕ → Type 0) → Type 0
@@ -106,6 +121,10 @@ full_chunks plan records = all_chunks plan.format (full_blocks (block_size plan)
 
 abbrev pub every_chunk : Plan → (records : List ℕ) → List ℕ
 every_chunk plan records = all_chunks plan.format (blocks_of (block_size plan) records)
+
+-- how long each of them is
+abbrev pub chunk_lengths : Plan → (records : List ℕ) → List ℕ
+chunk_lengths plan records = map (λ chunk. length chunk) (chunks plan.format (blocks_of (block_size plan) records))
 
 -- the chunks of all blocks of some records, and their table
 abbrev pub packed_text : Plan → (records : List ℕ) → List ℕ
@@ -174,7 +193,28 @@ OfPacked now name packing P =
     (before : Outside) (front records : List ℕ) → PackedStands before now name front packing records
     → P before front records
 
+-- The output and its packing stand for some whole records.
+abbrev pub HoldsWhole : (now : Outside) → (name : List ℕ) → PackingSeen → Type 0
+HoldsWhole now name packing =
+    (before : Outside) × (front : List ℕ) × (records : List ℕ)
+    × PackedStands before now name front packing records
+    × (length records % record_size packing.plan ≡ 0)
+
+-- A call adds records that the plan has room for: the output and its packing then stand for them, too, or it stops in
+-- the
+-- chunks of the blocks that are then full.
+abbrev pub AddsPacked : Result (Unit {0}) Fault → (old now : Outside) → (name : List ℕ) → (packing next : PackingSeen)
+    → (more : List ℕ) → Type 0
+AddsPacked result old now name packing next more =
+    OfPacked old name packing (λ before front bytes. PlanHasRoom packing.plan bytes more
+    → MatchResult result (λ _. PackedStands before now name front next (bytes ++ more))
+    (StopsIn before now name (front ++ full_chunks packing.plan (bytes ++ more))))
+
 -- ---- writers
+
+-- an output by the parts of a call
+abbrev pub new_output : (name head : List ℕ) → (chunk : Option ℕ) → (counted : Bool) → Output
+new_output name head chunk counted = record { name = name; head = head; chunk = chunk; counted = counted }
 
 -- what contracts see of a writer: the name of its output; the lengths of the plain head and of a record; how many
 -- records there are at most in all, and how many bytes of records it took; whether the head has a second set of counts;
@@ -270,6 +310,16 @@ abbrev pub OfOutput : (now : Outside) → WriterSeen → (P : Outside → Output
 OfOutput now writer P =
     (before : Outside) (out : Output) (records : List ℕ) → Stands before now writer out records
     → P before out records
+
+-- A call adds records that the writer has room for: the output then stands for them, too, or it stops in what is
+-- appended
+-- of it.
+abbrev pub AddsPoints : Result (Unit {0}) Fault → (old now : Outside) → (writer : WriterSeen)
+    → (next : Option PackingSeen) → (more : List ℕ) → Type 0
+AddsPoints result old now writer next more =
+    OfOutput old writer (λ before out bytes. WriterHasRoom writer bytes more
+    → MatchResult result (λ _. PointsStand out.chunk before now out writer.most next (bytes ++ more))
+    (StopsIn before now out.name (stopped out (bytes ++ more))))
 
 -- An output of these records is left unfinished.
 abbrev pub StopsUnfinished : (before now : Outside) → Output → (records : List ℕ) → Fault → Type 0

@@ -1,13 +1,13 @@
 //! The end of a packed output: the last block, and the chunk table.
-ghost use Rattle.std.specs.Prelude.{◌≡◌, ◌↔◌, ◌+◌, ◌*◌, ◌%◌, ◌^◌, ◌<◌, ◌≤◌, ◌++◌, [], ℕ, List, length, map, sum};
+ghost use Rattle.std.specs.Prelude.{◌≡◌, ◌↔◌, ◌+◌, ◌*◌, ◌^◌, ◌<◌, ◌≤◌, ◌++◌, [], length, sum};
 ghost use Rattle.std.specs.Prelude.{OnOk};
 ghost use Rattle.std.specs.Prelude.{IfOk, IfErr, IsTrue};
 ghost use Rattle.las_outside.specs.Frames.{OnlyWrites};
-ghost use Rattle.las_outside.specs.Outside.{Outside, with_bytes};
+ghost use Rattle.las_outside.specs.Outside.{with_bytes};
 ghost use Rattle.laz_table.specs.Table.{table_bytes};
 ghost use Rattle.laz_forms.specs.Packing.{blocks_of};
-ghost use Rattle.laz_writer.specs.Writing.{OfPacked, PackedStands, StopsIn, block_size, chunks, every_chunk};
-ghost use Rattle.laz_writer.specs.Writing.{packed_text, record_size};
+ghost use Rattle.laz_writer.specs.Writing.{OfPacked, StopsIn, block_size, every_chunk, HoldsWhole, chunk_lengths};
+ghost use Rattle.laz_writer.specs.Writing.{packed_text};
 
 use crate::packing::Packing;
 use crate::put::put;
@@ -50,15 +50,12 @@ impl Packing {
         name: &str,
     ) -> Result<(), Fault>
         requires few { length self.old.kept < 2 * self.old.plan.workers }
-        requires stands { (before : Outside) × (front : List ℕ) × (records : List ℕ)
-            × PackedStands before (F.seen files.old) name.now front self.old records
-            × (length records % record_size self.old.plan ≡ 0) }
+        requires stands { HoldsWhole (F.seen files.old) name.now self.old }
         ensures appended { OfPacked (F.seen files.old) name.now self.old
             (λ before front records. OnOk result (F.seen files.new
             ≡ with_bytes before name.now (front ++ every_chunk self.old.plan records))) }
         ensures lengths { OfPacked (F.seen files.old) name.now self.old
-            (λ before front records. OnOk result (self.new.lengths ≡ map
-            (λ chunk. length chunk) (chunks self.old.plan.format (blocks_of (block_size self.old.plan) records)))) }
+            (λ before front records. OnOk result (self.new.lengths ≡ chunk_lengths self.old.plan records)) }
         ensures stopped { OfPacked (F.seen files.old) name.now self.old
             (λ before front records. IfErr result (StopsIn before (F.seen files.new) name.now
             (front ++ every_chunk self.old.plan records))) }
@@ -102,9 +99,7 @@ impl Packing {
         name: &str,
     ) -> Result<(u64, u64), Fault>
         requires few { length self.old.kept < 2 * self.old.plan.workers }
-        requires stands { (before : Outside) × (front : List ℕ) × (records : List ℕ)
-            × PackedStands before (F.seen files.old) name.now front self.old records
-            × (length records % record_size self.old.plan ≡ 0) }
+        requires stands { HoldsWhole (F.seen files.old) name.now self.old }
         ensures appended { OfPacked (F.seen files.old) name.now self.old
             (λ before front records. OnOk result (F.seen files.new
             ≡ with_bytes before name.now (front ++ packed_text self.old.plan records))) }

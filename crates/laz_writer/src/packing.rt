@@ -1,9 +1,10 @@
 //! The packing of an output: records that become chunks.
 ghost use Rattle.std.specs.Prelude.{◌≡◌, ◌+◌, ◌*◌, ◌<◌, ◌≤◌, ◌++◌, ◌∷◌, [], ℕ, List, length, map, take, All, OnOk};
-ghost use Rattle.std.specs.Prelude.{IfOk, IfErr, IsTrue, ◌↔◌};
+ghost use Rattle.std.specs.Prelude.{IfOk, IfErr, IsTrue};
 ghost use Rattle.las_outside.specs.Frames.{OnlyWrites};
 ghost use Rattle.las_outside.specs.Outside.{Outside, with_bytes};
 ghost use Rattle.laz_writer.specs.Writing.{PlanHasRoom, HasText, IsBlock, OfPacked, OfText, PackedStands, StopsAfter};
+ghost use Rattle.laz_writer.specs.Writing.{AddsPacked};
 ghost use Rattle.laz_writer.specs.Writing.{StopsIn, Took};
 ghost use Rattle.laz_writer.specs.Writing.{all_chunks, block_size, chunks, full_chunks};
 
@@ -284,13 +285,8 @@ impl Packing {
         requires stands { (before : Outside) × (front : List ℕ) × (bytes : List ℕ)
             × PackedStands before (F.seen files.old) name.now front self.old bytes
             × PlanHasRoom self.old.plan bytes records.now }
-        ensures stands { OfPacked (F.seen files.old) name.now self.old
-            (λ before front bytes. PlanHasRoom self.old.plan bytes records.now
-            → OnOk result (PackedStands before (F.seen files.new) name.now front self.new (bytes ++ records.now))) }
-        ensures stopped { OfPacked (F.seen files.old) name.now self.old
-            (λ before front bytes. PlanHasRoom self.old.plan bytes records.now
-            → IfErr result (StopsIn before (F.seen files.new) name.now
-            (front ++ full_chunks self.old.plan (bytes ++ records.now)))) }
+        ensures adds { AddsPacked result (F.seen files.old) (F.seen files.new) name.now self.old self.new
+            records.now }
         ensures few { OnOk result (length self.new.kept < 2 * self.new.plan.workers) }
         ensures plan { self.new.plan ≡ self.old.plan }
         ensures writes { OnlyWrites (F.seen files.old) (F.seen files.new) }
@@ -318,13 +314,8 @@ impl Packing {
         requires stands { (before : Outside) × (front : List ℕ) × (bytes : List ℕ)
             × PackedStands before (F.seen files.old) name.now front self.old bytes
             × PlanHasRoom self.old.plan bytes block.old.items }
-        ensures stands { OfPacked (F.seen files.old) name.now self.old
-            (λ before front bytes. PlanHasRoom self.old.plan bytes block.old.items
-            → OnOk result (PackedStands before (F.seen files.new) name.now front self.new (bytes ++ block.old.items))) }
-        ensures stopped { OfPacked (F.seen files.old) name.now self.old
-            (λ before front bytes. PlanHasRoom self.old.plan bytes block.old.items
-            → IfErr result (StopsIn before (F.seen files.new) name.now
-            (front ++ full_chunks self.old.plan (bytes ++ block.old.items)))) }
+        ensures adds { AddsPacked result (F.seen files.old) (F.seen files.new) name.now self.old self.new
+            block.old.items }
         ensures few { OnOk result (length self.new.kept < 2 * self.new.plan.workers) }
         ensures plan { self.new.plan ≡ self.old.plan }
         ensures writes { OnlyWrites (F.seen files.old) (F.seen files.new) }

@@ -1,10 +1,8 @@
 //! Bytes of an output that are replaced.
-ghost use Rattle.std.specs.Prelude.{◌≡◌, ◌+◌, ◌≤◌, ◌++◌, ◌∷◌, [], ℕ, List, length, take, OnOk, IfErr};
-ghost use Rattle.las_outside.specs.Drafts.{IsPatchedInPart, with_patches};
-ghost use Rattle.las_outside.specs.Files.{with_patch};
+ghost use Rattle.std.specs.Prelude.{◌≡◌, ◌+◌, ◌≤◌, ◌++◌, ◌∷◌, [], ℕ, List, length, OnOk};
 ghost use Rattle.las_outside.specs.Frames.{OnlyWrites};
 ghost use Rattle.las_outside.specs.Outside.{Outside, with_bytes};
-ghost use Rattle.laz_writer.specs.Writing.{FitIn, OfText, Stops};
+ghost use Rattle.laz_writer.specs.Writing.{FitIn, OfText, Patches, PatchesAll};
 
 use las_outside::Files;
 use laz_forms::Fault;
@@ -47,11 +45,8 @@ pub(crate) fn add_patch(
 fn put_patch<F: Files>(files: &mut F, name: &str, patch: &Patch) -> Result<(), Fault>
     requires held { (before : Outside) × (text : List ℕ) × (F.seen files.old ≡ with_bytes before name.now text)
         × (patch.now.0 + length patch.now.1 ≤ length text) }
-    ensures replaced { OfText (F.seen files.old) name.now (λ before text. OnOk result
-        (F.seen files.new ≡ with_bytes before name.now (with_patch text patch.now.0 patch.now.1))) }
-    ensures stopped { OfText (F.seen files.old) name.now (λ before text. IfErr result (λ fault. (n : ℕ)
-        × Stops fault (with_bytes before name.now (with_patch text patch.now.0 (take n patch.now.1)))
-        (F.seen files.new))) }
+    ensures patched { OfText (F.seen files.old) name.now (λ before text.
+        Patches result before (F.seen files.new) name.now text patch.now) }
     ensures writes { OnlyWrites (F.seen files.old) (F.seen files.new) }
 {
     match files.patch(name, patch.at, patch.bytes.as_slice()) {
@@ -65,12 +60,7 @@ pub(crate) fn patch_all<F: Files>(files: &mut F, name: &str, patches: &[Patch]) 
     requires held { (before : Outside) × (text : List ℕ) × (F.seen files.old ≡ with_bytes before name.now text)
         × FitIn text patches.now }
     ensures patched { OfText (F.seen files.old) name.now (λ before text.
-        FitIn text patches.now
-        → OnOk result (F.seen files.new ≡ with_bytes before name.now (with_patches text patches.now))) }
-    ensures stopped { OfText (F.seen files.old) name.now (λ before text.
-        FitIn text patches.now
-        → IfErr result (λ fault. (left : List ℕ) × IsPatchedInPart text patches.now left
-        × Stops fault (with_bytes before name.now left) (F.seen files.new))) }
+        PatchesAll result before (F.seen files.new) name.now text patches.now) }
     ensures writes { OnlyWrites (F.seen files.old) (F.seen files.new) }
 {
     for patch in patches {

@@ -1,17 +1,18 @@
 //! An output of point records, plain or packed, that is written as its records come.
-ghost use Rattle.std.specs.Prelude.{◌≡◌, ◌⊎◌, ◌+◌, ◌*◌, ◌%◌, ◌/◌, ◌^◌, ◌<◌, ◌≤◌, ◌++◌, [], ℕ, List, length, take};
+ghost use Rattle.std.specs.Prelude.{◌≡◌, ◌⊎◌, ◌+◌, ◌*◌, ◌%◌, ◌/◌, ◌^◌, ◌<◌, ◌≤◌, ◌++◌, [], ℕ, List, length};
 ghost use Rattle.std.specs.Prelude.{true, false, Bool};
 ghost use Rattle.std.specs.Prelude.{OnOk, OnErr, IfOk, IfErr, IsErrOf};
 ghost use Rattle.std.specs.Option.{ForSome};
 ghost use Rattle.las_header.specs.Fields.{is_packed};
-ghost use Rattle.las_header.specs.Plain.{cut_records};
+ghost use Rattle.las_header.specs.Plain.{cut_all};
 ghost use Rattle.las_header.specs.Vlrs.{laszip_vlrs_of};
 ghost use Rattle.las_outside.specs.Faults.{Rose};
 ghost use Rattle.las_outside.specs.Limits.{AreWorkers, IsChunkSize};
 ghost use Rattle.las_outside.specs.Frames.{IsCalm, OnlyWrites};
-ghost use Rattle.las_outside.specs.Outside.{Outside, with_bytes};
+ghost use Rattle.las_outside.specs.Outside.{Outside};
 ghost use Rattle.laz_forms.specs.Outputs.{Output, front, stopped};
-ghost use Rattle.laz_writer.specs.Writing.{WriterHasRoom, IsBegun, IsTally, OfOutput, PointsStand, Stands, Stops};
+ghost use Rattle.laz_writer.specs.Writing.{WriterHasRoom, IsBegun, IsTally, OfOutput, Stands, AddsPoints};
+ghost use Rattle.laz_writer.specs.Writing.{StopsBeginning, new_output};
 ghost use Rattle.laz_writer.specs.Writing.{StopsIn, first_packing};
 ghost use Rattle.laz_forms.specs.declared.fault.Fault.TheVariants.{Memory, Write};
 
@@ -125,18 +126,14 @@ impl Writer {
         requires chunk { ForSome chunk IsChunkSize }
         requires workers { AreWorkers workers }
 
-        ensures stands { let out : Output =
-            record { name = name.now; head = head.now.bytes; chunk = chunk; counted = counted } in
-            IfOk result (λ writer. Stands (F.seen files.old) (F.seen files.new) writer out []) }
+        ensures stands { IfOk result (λ writer. Stands (F.seen files.old) (F.seen files.new) writer
+            (new_output name.now head.now.bytes chunk counted) []) }
         ensures most { IfOk result (λ writer. writer.most ≡ most) }
         ensures open { IfOk result (λ writer. writer.failed ≡ false) }
 
         // After an error the output is as before, or it holds a prefix of the front.
-        ensures stopped { let out : Output =
-            record { name = name.now; head = head.now.bytes; chunk = chunk; counted = counted } in
-            IfErr result (λ fault. Stops fault (F.seen files.old) (F.seen files.new)
-            ⊎ ((n : ℕ) × Stops fault (with_bytes (F.seen files.old) name.now (take n (front out)))
-            (F.seen files.new))) }
+        ensures stopped { IfErr result (StopsBeginning (F.seen files.old) (F.seen files.new) name.now
+            (front (new_output name.now head.now.bytes chunk counted))) }
         // Out of memory leaves all as it was: nothing is created before all memory is there.
         ensures memory { IsErrOf result Memory → F.seen files.new ≡ F.seen files.old }
         ensures fault { IfErr result (λ fault. (fault ≡ Memory) ⊎ (fault ≡ Write)) }
@@ -188,13 +185,7 @@ impl Writer {
         requires points { (before : Outside) × (out : Output) × (bytes : List ℕ)
             × Stands before (F.seen files.old) self.old out bytes
             × WriterHasRoom self.old bytes records.now }
-        ensures points { OfOutput (F.seen files.old) self.old
-            (λ before out bytes. WriterHasRoom self.old bytes records.now
-            → OnOk result (PointsStand out.chunk before (F.seen files.new) out self.old.most self.new.packing
-            (bytes ++ records.now))) }
-        ensures stopped { OfOutput (F.seen files.old) self.old
-            (λ before out bytes. WriterHasRoom self.old bytes records.now
-            → IfErr result (StopsIn before (F.seen files.new) out.name (stopped out (bytes ++ records.now)))) }
+        ensures adds { AddsPoints result (F.seen files.old) (F.seen files.new) self.old self.new.packing records.now }
         ensures same { self.new ≡ record self.old { packing = self.new.packing } }
         ensures writes { OnlyWrites (F.seen files.old) (F.seen files.new) }
     {
@@ -218,13 +209,8 @@ impl Writer {
         requires points { (before : Outside) × (out : Output) × (bytes : List ℕ)
             × Stands before (F.seen files.old) self.old out bytes
             × WriterHasRoom self.old bytes block.old.items }
-        ensures points { OfOutput (F.seen files.old) self.old
-            (λ before out bytes. WriterHasRoom self.old bytes block.old.items
-            → OnOk result (PointsStand out.chunk before (F.seen files.new) out self.old.most self.new.packing
-            (bytes ++ block.old.items))) }
-        ensures stopped { OfOutput (F.seen files.old) self.old
-            (λ before out bytes. WriterHasRoom self.old bytes block.old.items
-            → IfErr result (StopsIn before (F.seen files.new) out.name (stopped out (bytes ++ block.old.items)))) }
+        ensures adds { AddsPoints result (F.seen files.old) (F.seen files.new) self.old self.new.packing
+            block.old.items }
         ensures same { self.new ≡ record self.old { packing = self.new.packing } }
         ensures writes { OnlyWrites (F.seen files.old) (F.seen files.new) }
     {
@@ -243,8 +229,7 @@ impl Writer {
         requires tally { (counted : Bool) × (before : List (List ℕ)) × IsTally counted self.now.counts before
             × (length before + length records.now / self.now.size < 2 ^ 32) }
         ensures { (counted : Bool) (before : List (List ℕ)) → IsTally counted self.now.counts before
-            → IsTally counted result
-            (before ++ cut_records self.now.size (length records.now / self.now.size) records.now) }
+            → IsTally counted result (before ++ cut_all self.now.size records.now) }
     {
         if let Some(mut counts) = self.counts {
             count_all(&mut counts, records, self.size);

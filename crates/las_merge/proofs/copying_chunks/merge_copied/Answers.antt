@@ -1,5 +1,6 @@
 use Rattle.laz_forms.proofs.Public.{if_err}
-use Rattle.std.proofs.Common.{◌≡◌, ◌≢◌, inr, Err, IfErr, OnErr, OnOk, ℕ, ◌^◌, ◌<◌, ◌≤◌, List, length, Option, Some, false, sym, ◌∙◌, ap, subst, arith}
+use Rattle.std.proofs.Common.{◌≡◌, ◌≢◌, inr, Err, IfErr, OnErr, OnOk, ℕ, ◌^◌, ◌<◌, ◌≤◌, List, length, Option, Some}
+use Rattle.std.proofs.Common.{false, sym, ◌∙◌, ap, subst, arith}
 use Rattle.std.specs.Prelude.{All, string_bytes, sum_by}
 use Rattle.std.specs.declared.alloc.Global.{Global}
 use Rattle.std.proofs.lemmas.List.{length-map}
@@ -12,10 +13,10 @@ use Rattle.laz_forms.specs.declared.fault.Fault.TheVariants as fault
 use Rattle.laz_forms.proofs.Public.{on_ok}
 use Rattle.laz_file.proofs.Public.{err_at}
 use Rattle.laz_copied.specs.Copied.{Chunk}
-use Rattle.laz_file.specs.Copying.{with_reads}
+use Rattle.laz_file.specs.Copying.{with_reads, LeavesPrefix}
 use Rattle.las_merge.specs.declared.fault.MergeFault.{MergeFault}
 use Rattle.las_merge.specs.declared.fault.MergeFault.TheVariants.{At, Unequal, Write}
-use Rattle.las_merge.specs.Appending.{IsCopyFault, LeavesPrefix, PartLiesIn, SourceSeen}
+use Rattle.las_merge.specs.Appending.{IsCopyFault, PartLiesIn, SourceSeen}
 use Rattle.las_merge.specs.Inputs.{names_of}
 use Rattle.las_merge.specs.Opening.{InputSeen, points_read}
 use Rattle.las_merge.specs.Outcomes.{SaysCopying}
@@ -23,7 +24,8 @@ use Rattle.las_merge.specs.Packed.{CanCopyFrom, asked_to_copy}
 use Rattle.las_merge.specs.Summing.{copied_text}
 use Rattle.las_merge.proofs.AskedToCopy.{compared_less}
 use Rattle.las_merge.proofs.CopiedOnce.{copied_once}
-use Rattle.las_merge.proofs.CopiedWhole.{asked_few, asked_whole, before_copied, can_copy, copy_is_fault, copy_within, files}
+use Rattle.las_merge.proofs.CopiedWhole.{asked_few, asked_whole, before_copied, can_copy, copy_is_fault, copy_within}
+use Rattle.las_merge.proofs.CopiedWhole.{files}
 use Rattle.las_merge.proofs.CopiedWhole.{head_one, head_packed, left_by, many_chunks, many_points}
 use Rattle.las_merge.proofs.CopiedWhole.{parts, sources_lie, sources_long, sources_other, text_is}
 use Rattle.las_merge.proofs.CopyOutcomes.{says_chunks, says_listing, says_memory, says_points}

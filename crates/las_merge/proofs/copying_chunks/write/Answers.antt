@@ -11,8 +11,8 @@ use Rattle.las_outside.specs.Outside.{Outside, with_bytes}
 use Rattle.las_outside.proofs.Public.{on_err, prefix_of}
 use Rattle.laz_reader.proofs.Public.{after_writes, then_writes}
 use Rattle.laz_file.proofs.Public.{known_after}
-use Rattle.laz_file.specs.Copying.{with_reads}
-use Rattle.las_merge.specs.Appending.{LeavesPrefix, PartLiesIn, SourceSeen, part_of}
+use Rattle.laz_file.specs.Copying.{with_reads, LeavesPrefix}
+use Rattle.las_merge.specs.Appending.{PartLiesIn, SourceSeen, part_of}
 use Rattle.las_merge.proofs.Appended.{leaves_more, parts_after, reads_now, copy_fault_since}
 use Rattle.las_merge.proofs.copying_chunks.write.Given.{Over}
 use Rattle.las_merge.proofs.copying_chunks.write.Goals.{In-Ok}

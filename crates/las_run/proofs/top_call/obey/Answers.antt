@@ -4,7 +4,7 @@ use Rattle.las_filter.specs.Kept.{steps_of}
 use Rattle.las_info.specs.Tallies.{TapSeen}
 use Rattle.las_words.specs.declared.command.Command.{Command}
 use Rattle.las_words.specs.Asked.{Asked, IsSoundAsked, asked_by, las2las, lasinfo, lasmerge, lassplit, laszip, make, reads}
-use Rattle.las_words.specs.Asked.{work_by}
+use Rattle.las_words.specs.Asked.{Work, work_by, workers_by}
 use Rattle.las_words.specs.Texts.{texts}
 use Rattle.laz_forms.proofs.Public.{All-unmap}
 use Rattle.las_make.specs.declared.settings.Settings.{Settings}
@@ -19,18 +19,26 @@ use Rattle.las_run.proofs.top_call.obey.Goals.{After-las2las, After-lasinfo, Aft
 use Rattle.las_run.proofs.top_call.obey.Goals.{After-laszip}
 use Rattle.las_run.proofs.top_call.obey.Goals as goal
 
+-- A command asks for the work of its variant, with its number of workers.
+asked_is : {command variant : Command} {n : ℕ} → command ≡ variant → n ≡ workers_by command
+    → record { work = work_by variant; workers = n } ≡ asked_by command
+asked_is {command} {variant} {n} is count =
+    ap (λ (w : Work). record { work = w; workers = n }) (sym (ap work_by is))
+    ∙ ap (λ (k : ℕ). record { work = work_by command; workers = k }) count
+
 -- What a command asks for is what the call that serves it was given, word for word.
 module _ (g : Over) (c : After-laszip g) where
   abbrev for_laszip : (input output : List ℕ) → Asked
   for_laszip input output = record {
     work = reads input (laszip (record { output = output; chunk = c.in-Laszip.chunk }));
-    workers = c.in-Laszip.workers;
+    workers = c.workers.result;
   }
 
   laszip_asked : for_laszip c.deref.result.now c.deref-in-Laszip.result.now ≡ asked_by c.args.command.now
   laszip_asked =
       ap (λ (i : List ℕ). for_laszip i c.deref-in-Laszip.result.now) c.deref.ensures
-      ∙ ap (for_laszip (string_bytes c.in-Laszip.input)) c.deref-in-Laszip.ensures ∙ sym (ap asked_by c.in-Laszip.is)
+      ∙ ap (for_laszip (string_bytes c.in-Laszip.input)) c.deref-in-Laszip.ensures
+      ∙ asked_is c.in-Laszip.is c.workers.ensures
 
 module _ (g : Over) (c : After-las2las g) where
   abbrev conversion : Conversion
@@ -46,7 +54,7 @@ module _ (g : Over) (c : After-las2las g) where
   abbrev for_las2las : (input output : List ℕ) (tallies : List (List ℕ)) → Asked
   for_las2las input output tallies = record {
     work = reads input (las2las (las2las_options output (steps_of c.in-Las2las.plan) conversion tallies));
-    workers = c.in-Las2las.workers;
+    workers = c.workers.result;
   }
 
   abbrev las2las_given : Asked
@@ -60,13 +68,13 @@ module _ (g : Over) (c : After-las2las g) where
       ∙ ap (λ (o : List ℕ). for_las2las (string_bytes c.in-Las2las.input) o (texts c.deref-in-Las2las-3.result.now))
       c.deref-in-Las2las-2.ensures
       ∙ ap (λ ts. for_las2las (string_bytes c.in-Las2las.input) (string_bytes c.in-Las2las.output) (texts ts))
-      c.deref-in-Las2las-3.ensures.value ∙ sym (ap asked_by c.in-Las2las.is)
+      c.deref-in-Las2las-3.ensures.value ∙ asked_is c.in-Las2las.is c.workers.ensures
 
 module _ (g : Over) (c : After-lasinfo g) where
   abbrev for_lasinfo : (input : List ℕ) (tallies : List (List ℕ)) → Asked
   for_lasinfo input tallies = record {
     work = reads input (lasinfo (record { tallies = tallies }));
-    workers = c.in-Lasinfo.workers;
+    workers = c.workers.result;
   }
 
   abbrev lasinfo_given : Asked
@@ -76,13 +84,13 @@ module _ (g : Over) (c : After-lasinfo g) where
   lasinfo_asked =
       ap (λ (i : List ℕ). for_lasinfo i (texts c.deref-in-Lasinfo-2.result.now)) c.deref-in-Lasinfo.ensures
       ∙ ap (λ ts. for_lasinfo (string_bytes c.in-Lasinfo.input) (texts ts)) c.deref-in-Lasinfo-2.ensures.value
-      ∙ sym (ap asked_by c.in-Lasinfo.is)
+      ∙ asked_is c.in-Lasinfo.is c.workers.ensures
 
 module _ (g : Over) (c : After-lassplit g) where
   abbrev for_lassplit : (input stem end : List ℕ) → Asked
   for_lassplit input stem end = record {
     work = reads input (lassplit (record { stem = stem; end = end; rule = c.in-Lassplit.rule }));
-    workers = c.in-Lassplit.workers;
+    workers = c.workers.result;
   }
 
   lassplit_asked : for_lassplit c.deref-in-Lassplit.result.now c.deref-in-Lassplit-2.result.now
@@ -93,7 +101,7 @@ module _ (g : Over) (c : After-lassplit g) where
       ∙ ap (λ (s : List ℕ). for_lassplit (string_bytes c.in-Lassplit.input) s c.deref-in-Lassplit-3.result.now)
       c.deref-in-Lassplit-2.ensures
       ∙ ap (for_lassplit (string_bytes c.in-Lassplit.input) (string_bytes c.in-Lassplit.stem))
-      c.deref-in-Lassplit-3.ensures ∙ sym (ap asked_by c.in-Lassplit.is)
+      c.deref-in-Lassplit-3.ensures ∙ asked_is c.in-Lassplit.is c.workers.ensures
 
 pub returns-in-Laszip-clause-ends : goal.returns-in-Laszip-clause-ends
 returns-in-Laszip-clause-ends g c =
@@ -144,13 +152,14 @@ module _ (g : Over) (c : After-lasmerge g) where
       chunk = c.in-Lasmerge.packing.chunk;
       copy = c.in-Lasmerge.copy;
     });
-    workers = c.in-Lasmerge.workers;
+    workers = c.workers.result;
   }
 
   lasmerge_asked : lasmerge_given (texts c.deref-in-Lasmerge.result.now) c.deref-in-Lasmerge-2.result.now ≡ asked_by c.args.command.now
   lasmerge_asked =
       ap (λ ts. lasmerge_given (texts ts) c.deref-in-Lasmerge-2.result.now) c.deref-in-Lasmerge.ensures.value
-      ∙ ap (lasmerge_given (texts c.in-Lasmerge.inputs.items)) c.deref-in-Lasmerge-2.ensures ∙ sym (ap asked_by c.in-Lasmerge.is)
+      ∙ ap (lasmerge_given (texts c.in-Lasmerge.inputs.items)) c.deref-in-Lasmerge-2.ensures
+      ∙ asked_is c.in-Lasmerge.is c.workers.ensures
 
 pub returns-in-Lasmerge-clause-ends : goal.returns-in-Lasmerge-clause-ends
 returns-in-Lasmerge-clause-ends g c =
@@ -164,10 +173,10 @@ returns-in-Make-clause-ends g c =
     let packed = c.deref-in-Make-2.result.now in
     let settings : Settings = record { points = w.points; seed = w.seed; format = w.format; extra = w.extra } in
     let asks_for : (output packed : List ℕ) → Asked =
-    λ output packed. record { work = make (options_with output packed settings w.chunk); workers = w.workers } in
+    λ output packed. record { work = make (options_with output packed settings w.chunk); workers = c.workers.result } in
     let asked : asks_for c.deref-in-Make.result.now packed ≡ asked_by c.args.command.now =
     ap (λ (o : List ℕ). asks_for o packed) c.deref-in-Make.ensures
-    ∙ ap (asks_for (string_bytes w.output)) c.deref-in-Make-2.ensures ∙ sym (ap asked_by w.is) in
+    ∙ ap (asks_for (string_bytes w.output)) c.deref-in-Make-2.ensures ∙ asked_is w.is c.workers.ensures in
     λ task taps said. by_task task _ _ _ c.make.result said asked (c.make.ensures.ends task.taps)
 
 pub returns-in-Las2las-clause-asks : goal.returns-in-Las2las-clause-asks

@@ -266,15 +266,13 @@ module _ (g : Over) (c : After-block-block g) where
       subst (λ (z : List (List ℕ)). TakesBlock (with_head used) was now ns ws [] z all) (sym joined)
       (takes_then (with_head used) was now ns ws [] before (cut_all size come.0) all two)
 
-pub split_block-requires-clause-plain : goal.split_block-requires-clause-plain
-split_block-requires-clause-plain g c κs lives =
-    let k = (goal.at.split_block-requires-clause-plain g c).After-block-block in
-    ap (λ (h : HeadView). is_packed h.bytes) (heads g k) ∙ c.requires.plain.plain_is
-
-pub split_block-requires-clause-none : goal.split_block-requires-clause-none
-split_block-requires-clause-none g c κs lives =
-    let k = (goal.at.split_block-requires-clause-none g c).After-block-block in
-    ap (λ (h : HeadView). laszip_vlrs_of h.bytes) (heads g k) ∙ c.requires.plain.none
+pub invariant_of-splitter : goal.invariant_of-splitter
+invariant_of-splitter g c =
+    let k = (goal.at.invariant_of-splitter g c).After-block-block in
+    record {
+      plain = ap (λ (h : HeadView). is_packed h.bytes) (heads g k) ∙ c.requires.plain.plain_is;
+      none = ap (λ (h : HeadView). laszip_vlrs_of h.bytes) (heads g k) ∙ c.requires.plain.none;
+    }
 
 pub split_block-requires-clause-room : goal.split_block-requires-clause-room
 split_block-requires-clause-room g c κs lives =

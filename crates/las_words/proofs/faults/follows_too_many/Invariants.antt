@@ -7,7 +7,7 @@ use Rattle.las_words.proofs.faults.follows_too_many.Given as goal
 
 abbrev pub invariant-loop-piece : goal.invariant-loop-piece
 invariant-loop-piece l = record {
-  counted : l.count + count_by (λ piece. list_any (bytes_eq (word_at (texts l.words) piece.at)) (row_of l.flag).rivals) (drop l.piece-index l.earlier)
-      ≡ count_by (λ piece. list_any (bytes_eq (word_at (texts l.words) piece.at)) (row_of l.flag).rivals) l.earlier;
+  counted : l.count + count_by (λ piece. list_any (bytes_eq (word_at (texts l.earlier.words.now) piece.at)) (row_of l.flag).rivals) (drop l.piece-index l.earlier.pieces.now)
+      ≡ count_by (λ piece. list_any (bytes_eq (word_at (texts l.earlier.words.now) piece.at)) (row_of l.flag).rivals) l.earlier.pieces.now;
   few : l.count ≤ l.piece-index;
 }

@@ -20,7 +20,7 @@ returns-in_err-tallies_of c =
 
 pub returns : goal.returns
 returns c =
-    converts (texts c.args.words.now) c.args.pieces.now c.in_ok-copy_of.field-0 c.in_ok-copy_of-2.field-0
+    converts (texts c.args.options.now.words.now) c.args.options.now.pieces.now c.in_ok-copy_of.field-0 c.in_ok-copy_of-2.field-0
     c.in_ok-plan_of.field-0 c.packing_of.result _ _ _ _ _ _ c.in_ok-tallies_of.field-0
     c.in_ok-copy_of.ensures c.in_ok-copy_of-2.ensures c.in_ok-plan_of.ensures c.packing_of.ensures.packed
     c.packing_of.ensures.chunk c.workers_of.ensures

@@ -12,5 +12,5 @@ returns-in_err-tallies_of c =
 
 pub returns : goal.returns
 returns c =
-    reports (texts c.args.words.now) c.args.pieces.now c.in_ok-copy_of.field-0 c.in_ok-tallies_of.field-0 _
+    reports (texts c.args.options.now.words.now) c.args.options.now.pieces.now c.in_ok-copy_of.field-0 c.in_ok-tallies_of.field-0 _
     c.in_ok-copy_of.ensures c.in_ok-tallies_of.ensures c.workers_of.ensures

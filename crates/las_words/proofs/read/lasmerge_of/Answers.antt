@@ -12,7 +12,7 @@ returns-in_err-texts_of c =
 
 pub returns : goal.returns
 returns c =
-    merges (texts c.args.words.now) c.args.pieces.now c.in_ok-texts_of.field-0 c.in_ok-copy_of.field-0
+    merges (texts c.args.options.now.words.now) c.args.options.now.pieces.now c.in_ok-texts_of.field-0 c.in_ok-copy_of.field-0
     c.packing_of.result _ _
     c.in_ok-texts_of.ensures c.in_ok-copy_of.ensures c.packing_of.ensures.packed c.packing_of.ensures.chunk
     c.workers_of.ensures c.is_given.ensures

@@ -19,7 +19,7 @@ returns-in_err-from_str-2 c =
 pub returns : goal.returns
 returns c =
     let output = c.text_of-output.ensures in
-    splits (texts c.args.words.now) c.args.pieces.now c.in_ok-copy_of.field-0 c.in_ok-from_str.field-0
+    splits (texts c.args.options.now.words.now) c.args.options.now.pieces.now c.in_ok-copy_of.field-0 c.in_ok-from_str.field-0
     c.in_ok-from_str-2.field-0 _ _ c.in_ok-copy_of.ensures
     (c.in_ok-from_str.ensures.ok ∙ c.stem_of.ensures ∙ ap stem_of output) (c.in_ok-from_str-2.ensures.ok ∙
     c.end_of.ensures ∙ ap extension_of output)

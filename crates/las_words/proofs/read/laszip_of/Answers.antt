@@ -12,5 +12,5 @@ returns-in_err-copy_of-2 c =
 
 pub returns : goal.returns
 returns c =
-    packs (texts c.args.words.now) c.args.pieces.now c.in_ok-copy_of.field-0 c.in_ok-copy_of-2.field-0 _ _
+    packs (texts c.args.options.now.words.now) c.args.options.now.pieces.now c.in_ok-copy_of.field-0 c.in_ok-copy_of-2.field-0 _ _
     c.in_ok-copy_of.ensures c.in_ok-copy_of-2.ensures c.chunk_of.ensures c.workers_of.ensures

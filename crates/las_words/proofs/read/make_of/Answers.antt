@@ -12,6 +12,6 @@ returns-in_err-copy_of-2 c =
 
 pub returns : goal.returns
 returns c =
-    makes (texts c.args.words.now) c.args.pieces.now c.in_ok-copy_of.field-0 c.in_ok-copy_of-2.field-0 _ _ _ _ _ _
+    makes (texts c.args.options.now.words.now) c.args.options.now.pieces.now c.in_ok-copy_of.field-0 c.in_ok-copy_of-2.field-0 _ _ _ _ _ _
     c.in_ok-copy_of.ensures c.in_ok-copy_of-2.ensures c.number_of.ensures c.number_of-2.ensures c.format_of.ensures
     c.extra_of.ensures c.chunk_of.ensures c.workers_of.ensures

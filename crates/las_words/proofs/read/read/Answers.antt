@@ -22,10 +22,10 @@ returns-clause-command c =
     accepted (texts c.args.names.now) (texts c.args.words.now) c.in-Some.tool c.in_ok-pieces.pieces.items _
     (ap tool_named (sym c.word.ensures) ∙ sym c.named.ensures ∙ c.in-Some.is) c.in_ok-pieces.ensures.pieces
     (ap (wrong_word (texts c.args.names.now) c.in-Some.tool (texts c.args.words.now)) (sym c.deref.ensures.value) ∙ sym c.in_ok-index.ensures ∙ c.in_default-2.is)
-    (c.in_ok-command_of.ensures ∙ ap (asked_of c.in-Some.tool (texts c.args.words.now)) c.deref-2.ensures.value)
+    (c.in_ok-command_of.ensures ∙ ap (asked_of c.in-Some.tool (texts c.args.words.now)) c.deref.ensures.value)
 
 pub returns-clause-sound : goal.returns-clause-sound
 returns-clause-sound c =
     sound (texts c.args.names.now) (texts c.args.words.now) c.in-Some.tool c.in_ok-pieces.pieces.items _ c.in_ok-pieces.ensures.pieces
     (ap (wrong_word (texts c.args.names.now) c.in-Some.tool (texts c.args.words.now)) (sym c.deref.ensures.value) ∙ sym c.in_ok-index.ensures ∙ c.in_default-2.is)
-    (c.in_ok-command_of.ensures ∙ ap (asked_of c.in-Some.tool (texts c.args.words.now)) c.deref-2.ensures.value)
+    (c.in_ok-command_of.ensures ∙ ap (asked_of c.in-Some.tool (texts c.args.words.now)) c.deref.ensures.value)

@@ -38,7 +38,7 @@ returns-in_err-low-clause-reads g c =
     let f = sized-takes (model_at c.args.bank.now 0) s 128 _ _ size c.in_ok-symbol.ensures.reads in
     let red = rw c.colour_marks-marks.ensures at c.in_ok-red.ensures.reads in
     let low = rw c.colour_marks-marks.ensures at c.in_err-low.ensures.reads in
-    rw p.1 (none-low c.args.bank.now s c.take_frequent_symbol_of.new.bank c.args.decoder.now c.take_frequent_symbol_of.new.decoder f c.in_ok-symbol.ensures.after_symbol red.0 c.take_red.new.bank c.take_red.new.decoder red.1 red.4 c.take_green_blue.new.decoder low)
+    rw p.1 (none-low c.args.bank.now s c.take_frequent_symbol_of.new.bank c.args.decoder.now c.take_frequent_symbol_of.new.decoder f c.in_ok-symbol.ensures.after_symbol red.0 c.take_red.new.bank c.take_red.new.decoder red.1 red.3 c.take_green_blue.new.decoder low)
 
 pub returns-in_err-high-clause-reads : goal.returns-in_err-high-clause-reads
 returns-in_err-high-clause-reads g c =
@@ -49,7 +49,7 @@ returns-in_err-high-clause-reads g c =
     let red = rw c.colour_marks-marks.ensures at c.in_ok-red.ensures.reads in
     let low = rw c.colour_marks-marks.ensures at c.in_ok-low.ensures.reads in
     let high = rw c.colour_marks-marks.ensures at c.in_err-high.ensures.reads in
-    rw p.1 (none-high c.args.bank.now s c.take_frequent_symbol_of.new.bank c.args.decoder.now c.take_frequent_symbol_of.new.decoder f c.in_ok-symbol.ensures.after_symbol red.0 c.take_red.new.bank c.take_red.new.decoder red.1 red.4 low.0 c.take_green_blue.new.bank c.take_green_blue.new.decoder low.1 low.4 c.take_green_blue-2.new.decoder high)
+    rw p.1 (none-high c.args.bank.now s c.take_frequent_symbol_of.new.bank c.args.decoder.now c.take_frequent_symbol_of.new.decoder f c.in_ok-symbol.ensures.after_symbol red.0 c.take_red.new.bank c.take_red.new.decoder red.1 red.3 low.0 c.take_green_blue.new.bank c.take_green_blue.new.decoder low.1 low.3 c.take_green_blue-2.new.decoder high)
 
 pub returns-clause-reads : goal.returns-clause-reads
 returns-clause-reads g c =
@@ -60,7 +60,7 @@ returns-clause-reads g c =
     let low = rw c.colour_marks-marks.ensures at c.in_ok-low.ensures.reads in
     let high = rw c.colour_marks-marks.ensures at c.in_ok-high.ensures.reads in (
       (s, (red.0, (low.0, high.0))),
-      some-high c.args.bank.now s c.take_frequent_symbol_of.new.bank c.args.decoder.now c.take_frequent_symbol_of.new.decoder f c.in_ok-symbol.ensures.after_symbol red.0 c.take_red.new.bank c.take_red.new.decoder red.1 red.4 low.0 c.take_green_blue.new.bank c.take_green_blue.new.decoder low.1 low.4 c.take_green_blue-2.new.decoder high.0 high.1,
-      c.colour_with.ensures ∙ made-is s c.args.last.now c.in_ok-red.red c.in_ok-low.low c.in_ok-high.high red.0 low.0 high.0 red.2 red.3 low.2 low.3 high.2 high.3,
-      bank-high c.args.bank.now s c.take_frequent_symbol_of.new.bank c.args.decoder.now c.take_frequent_symbol_of.new.decoder f c.in_ok-symbol.ensures.after_symbol red.0 c.take_red.new.bank c.take_red.new.decoder red.1 red.4 low.0 c.take_green_blue.new.bank c.take_green_blue.new.decoder low.1 low.4 c.take_green_blue-2.new.bank high.0 high.4,
+      some-high c.args.bank.now s c.take_frequent_symbol_of.new.bank c.args.decoder.now c.take_frequent_symbol_of.new.decoder f c.in_ok-symbol.ensures.after_symbol red.0 c.take_red.new.bank c.take_red.new.decoder red.1 red.3 low.0 c.take_green_blue.new.bank c.take_green_blue.new.decoder low.1 low.3 c.take_green_blue-2.new.decoder high.0 high.1,
+      c.colour_with.ensures ∙ made-is s c.args.last.now c.in_ok-red.red c.in_ok-low.low c.in_ok-high.high red.0 low.0 high.0 red.2.0 red.2.1 low.2.0 low.2.1 high.2.0 high.2.1,
+      bank-high c.args.bank.now s c.take_frequent_symbol_of.new.bank c.args.decoder.now c.take_frequent_symbol_of.new.decoder f c.in_ok-symbol.ensures.after_symbol red.0 c.take_red.new.bank c.take_red.new.decoder red.1 red.3 low.0 c.take_green_blue.new.bank c.take_green_blue.new.decoder low.1 low.3 c.take_green_blue-2.new.bank high.0 high.3,
     )

@@ -21,7 +21,9 @@ returns-clause-reads c =
     let g = c.in_ok-blue.ensures.reads in (
       (f.0, g.0),
       two-takes c.args.q.green_marked c.args.q.blue_marked c.args.bank.now c.take_next.new.bank c.args.m f.0 c.args.decoder.now c.take_next.new.decoder c.take_next-2.new.decoder f.1 f.3 g.0 g.1,
-      subst (λ (p : ℕ). c.in_ok-green.green ≡ byte_of c.args.q.green_marked p c.args.q.green_from f.0) c.moved-predicted.ensures f.2,
-      subst (λ (p : ℕ). c.in_ok-blue.blue ≡ byte_of c.args.q.blue_marked p c.args.q.blue_from g.0) c.predicted_blue-predicted.ensures g.2,
+      (
+        subst (λ (p : ℕ). c.in_ok-green.green ≡ byte_of c.args.q.green_marked p c.args.q.green_from f.0) c.moved-predicted.ensures f.2,
+        subst (λ (p : ℕ). c.in_ok-blue.blue ≡ byte_of c.args.q.blue_marked p c.args.q.blue_from g.0) c.predicted_blue-predicted.ensures g.2,
+      ),
       rw (← f.3) g.3,
     )

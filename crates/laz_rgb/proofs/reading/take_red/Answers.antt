@@ -19,7 +19,6 @@ returns-clause-reads c =
     let g = c.in_ok-second.ensures.reads in (
       (f.0, g.0),
       two-takes c.args.low c.args.high c.args.bank.now c.take_next.new.bank 1 f.0 c.args.decoder.now c.take_next.new.decoder c.take_next-2.new.decoder f.1 f.3 g.0 g.1,
-      f.2,
-      g.2,
+      (f.2, g.2),
       rw (← f.3) g.3,
     )

@@ -17,15 +17,15 @@ patch-requires g c =
     let fits : P h.1 = subst (λ (n : ℕ). n + length c.as_slice.result.now ≤ length h.1) (sym s.0) (subst (λ (b : List ℕ). c.args.patch.now.0 + length b ≤ length h.1) (sym s.1) h.3) in
     known_of h.0 c.args.name.now h.1 P _ h.2 fits
 
-pub returns-in-Ok-clause-replaced : goal.returns-in-Ok-clause-replaced
-returns-in-Ok-clause-replaced g c before text was =
+pub returns-in-Ok-clause-patched : goal.returns-in-Ok-clause-patched
+returns-in-Ok-clause-patched g c before text was =
     let s = passed _ c.args.patch.now c.as_slice.result.now c.patch.view_is c.as_slice.ensures.value in
     changed_after before c.args.name.now text (λ b. with_patch b c.patch.inside.at c.as_slice.result.now) _ _ was c.in-Ok.ensures.ok
     ∙ ap (λ (n : ℕ). with_bytes before c.args.name.now (with_patch text n c.as_slice.result.now)) s.0
     ∙ ap (λ (b : List ℕ). with_bytes before c.args.name.now (with_patch text c.args.patch.now.0 b)) s.1
 
-pub returns-in-Err-clause-stopped : goal.returns-in-Err-clause-stopped
-returns-in-Err-clause-stopped g c before text was =
+pub returns-in-Err-clause-patched : goal.returns-in-Err-clause-patched
+returns-in-Err-clause-patched g c before text was =
     let s = passed _ c.args.patch.now c.as_slice.result.now c.patch.view_is c.as_slice.ensures.value in
     let h = c.in-Err.ensures.err in (
       h.0,

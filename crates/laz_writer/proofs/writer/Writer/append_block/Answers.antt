@@ -1,12 +1,13 @@
 use Rattle.std.proofs.Common.{◌≡◌, ◌+◌, ℕ, Some, None, List, ◌++◌, length, take, refl, sym, ◌∙◌, ap, subst}
 use Rattle.std.specs.Prelude.{IfErr, OnOk}
-use Rattle.std.proofs.lemmas.Result.{on_ok_weaker, IfErr-weaker}
+use Rattle.std.proofs.lemmas.Result.{IfErr-weaker, IfOk-from_err, on_ok_weaker}
 use Rattle.las_outside.specs.Outside.{Outside, with_bytes}
 use Rattle.laz_forms.specs.Outputs.{front, stopped}
 use Rattle.laz_forms.specs.declared.fault.Fault.{Fault}
 use Rattle.laz_writer.specs.Writing.{PackedStands, PointsStand, Stops, WriterSeen, full_chunks}
 use Rattle.laz_writer.proofs.Arms.{packed_form, packed_more, packed_room, packed_stopped, plain_more, plain_part, plain_text}
 use Rattle.laz_forms.proofs.Public.{if_err}
+use Rattle.laz_writer.proofs.Stopping.{either}
 use Rattle.laz_writer.proofs.writer.Writer.append_block.Goals as goal
 
 pub put-requires : goal.put-requires
@@ -16,31 +17,6 @@ put-requires g c =
     let none : w.packing ≡ None = sym (ap (λ (v : WriterSeen). v.packing) c.self.view_is) ∙ c.in_default.is in
     let named = c.as_str-name.ensures.value ∙ ap (λ (v : WriterSeen). v.name) c.self.view_is ∙ h.3.named in
     record { held = (h.0, front h.1 ++ h.2, plain_text h.0 _ w h.1 h.2 h.3 none ∙ ap (λ (n : List ℕ). with_bytes h.0 n (front h.1 ++ h.2)) (sym named)) }
-
-pub returns-in_default-clause-points : goal.returns-in_default-clause-points
-returns-in_default-clause-points g c before out bytes s room =
-    let w = c.args.self.now in
-    let new = g.F.Files.seen c.put.new.files in
-    let none : w.packing ≡ None = sym (ap (λ (v : WriterSeen). v.packing) c.self.view_is) ∙ c.in_default.is in
-    let named = c.as_str-name.ensures.value ∙ ap (λ (v : WriterSeen). v.name) c.self.view_is ∙ s.named in
-    let text = front out ++ bytes in
-    let held = plain_text before _ w out bytes s none ∙ ap (λ (n : List ℕ). with_bytes before n text) (sym named) in
-    subst (λ (r : List ℕ). OnOk c.put.result (PointsStand out.chunk before new out w.most c.self.inside.packing (bytes ++ r))) c.deref.ensures.value
-    (on_ok_weaker c.put.result (λ is. plain_more before _ w out bytes s none new c.self.inside.packing c.deref.result.now c.in_default.is (is ∙ ap (λ (n : List ℕ). with_bytes before n (text ++ c.deref.result.now)) named)) (c.put.ensures.added before text held))
-
-pub returns-in_default-clause-stopped : goal.returns-in_default-clause-stopped
-returns-in_default-clause-stopped g c before out bytes s room =
-    let w = c.args.self.now in
-    let none : w.packing ≡ None = sym (ap (λ (v : WriterSeen). v.packing) c.self.view_is) ∙ c.in_default.is in
-    let named = c.as_str-name.ensures.value ∙ ap (λ (v : WriterSeen). v.name) c.self.view_is ∙ s.named in
-    let text = front out ++ bytes in
-    let held = plain_text before _ w out bytes s none ∙ ap (λ (n : List ℕ). with_bytes before n text) (sym named) in
-    let now = g.F.Files.seen c.put.new.files in
-    let records = c.deref.result.now in
-    subst (λ (r : List ℕ). IfErr c.put.result (λ (fault : Fault). (n : ℕ) × Stops fault (with_bytes before out.name (take n (stopped out (bytes ++ r)))) now)) c.deref.ensures.value
-    (IfErr-weaker c.put.result _ _ (λ e left.
-    let m = plain_part before _ w out bytes s none records left.0 in
-    (m.0, subst (λ (o : Outside). Stops e o now) (ap (λ (n : List ℕ). with_bytes before n (text ++ take left.0 records)) named ∙ ap (with_bytes before out.name) m.1) left.1)) (c.put.ensures.stopped before text held))
 
 pub add_block-requires-clause-few : goal.add_block-requires-clause-few
 add_block-requires-clause-few g c κs within =
@@ -58,8 +34,8 @@ add_block-requires-clause-stands g c κs within =
     let form = packed_form h.0 _ w h.1 h.2 p h.3 some in
     (h.0, front h.1, h.2, subst (λ (n : List ℕ). PackedStands h.0 (g.F.Files.seen c.args.files.now) n (front h.1) p h.2) (sym named) form.2.stands, packed_room h.0 _ w h.1 h.2 p h.3 some (length h.2 + length c.args.block.now.items) h.4)
 
-pub returns-in_err-add_block-clause-stopped : goal.returns-in_err-add_block-clause-stopped
-returns-in_err-add_block-clause-stopped g c before out bytes s room =
+pub returns-clause-adds : goal.returns-clause-adds
+returns-clause-adds g c before out bytes s room =
     let w = c.args.self.now in
     let p = c.in-Some.packing in
     let records = c.args.block.now.items in
@@ -67,19 +43,37 @@ returns-in_err-add_block-clause-stopped g c before out bytes s room =
     let named = c.as_str-name.ensures.value ∙ ap (λ (v : WriterSeen). v.name) c.self.view_is ∙ s.named in
     let form = packed_form before _ w out bytes p s some in
     let stands = subst (λ (n : List ℕ). PackedStands before (g.F.Files.seen c.args.files.now) n (front out) p bytes) (sym named) form.2.stands in
-    let left = c.in_err-add_block.ensures.stopped before (front out) bytes stands (packed_room before _ w out bytes p s some (length bytes + length records) room) in
-    let made = ap (λ (n : List ℕ). with_bytes before n (take left.0 (front out ++ full_chunks p.plan (bytes ++ records)))) named ∙ ap (λ (t : List ℕ). with_bytes before out.name (take left.0 t)) (packed_stopped before _ w out bytes p s some (bytes ++ records)) in
-    if_err _ c.from_residual.result _ c.from_residual.ensures.1 (left.0, subst (λ (o : Outside). Stops c.in_err-add_block.field-0.0 o (g.F.Files.seen c.add_block.new.files)) made left.1)
-
-pub returns-clause-points : goal.returns-clause-points
-returns-clause-points g c before out bytes s room =
-    let w = c.args.self.now in
-    let p = c.in-Some.packing in
-    let records = c.args.block.now.items in
-    let some : w.packing ≡ Some p = sym (ap (λ (v : WriterSeen). v.packing) c.self.view_is) ∙ c.in-Some.is in
-    let named = c.as_str-name.ensures.value ∙ ap (λ (v : WriterSeen). v.name) c.self.view_is ∙ s.named in
-    let form = packed_form before _ w out bytes p s some in
-    let stands = subst (λ (n : List ℕ). PackedStands before (g.F.Files.seen c.args.files.now) n (front out) p bytes) (sym named) form.2.stands in
-    let more = c.in_ok-add_block.ensures.stands before (front out) bytes stands (packed_room before _ w out bytes p s some (length bytes + length records) room) in
+    let more = c.in_ok-add_block.ensures.adds before (front out) bytes stands (packed_room before _ w out bytes p s some (length bytes + length records) room) in
     packed_more before _ w out bytes p s some _ (Some c.add_block.new.self) c.add_block.new.self records refl c.add_block.ensures.plan c.in_ok-add_block.ensures.few
     (subst (λ (n : List ℕ). PackedStands before (g.F.Files.seen c.add_block.new.files) n (front out) c.add_block.new.self (bytes ++ records)) named more)
+
+pub returns-in_default-clause-adds : goal.returns-in_default-clause-adds
+returns-in_default-clause-adds g c before out bytes s room =
+    let w = c.args.self.now in
+    let none : w.packing ≡ None = sym (ap (λ (v : WriterSeen). v.packing) c.self.view_is) ∙ c.in_default.is in
+    let named = c.as_str-name.ensures.value ∙ ap (λ (v : WriterSeen). v.name) c.self.view_is ∙ s.named in
+    let text = front out ++ bytes in
+    let held = plain_text before _ w out bytes s none ∙ ap (λ (n : List ℕ). with_bytes before n text) (sym named) in
+    let now = g.F.Files.seen c.put.new.files in
+    let records = c.deref.result.now in
+    let new = g.F.Files.seen c.put.new.files in
+    either _ _ c.put.result
+    (subst (λ (r : List ℕ). OnOk c.put.result (PointsStand out.chunk before new out w.most c.self.inside.packing (bytes ++ r))) c.deref.ensures.value
+    (on_ok_weaker c.put.result (λ is. plain_more before _ w out bytes s none new c.self.inside.packing c.deref.result.now c.in_default.is (is ∙ ap (λ (n : List ℕ). with_bytes before n (text ++ c.deref.result.now)) named)) (c.put.ensures.added before text held)))
+    (subst (λ (r : List ℕ). IfErr c.put.result (λ (fault : Fault). (n : ℕ) × Stops fault (with_bytes before out.name (take n (stopped out (bytes ++ r)))) now)) c.deref.ensures.value
+    (IfErr-weaker c.put.result _ _ (λ e left.
+    let m = plain_part before _ w out bytes s none records left.0 in
+    (m.0, subst (λ (o : Outside). Stops e o now) (ap (λ (n : List ℕ). with_bytes before n (text ++ take left.0 records)) named ∙ ap (with_bytes before out.name) m.1) left.1)) (c.put.ensures.stopped before text held)))
+
+pub returns-in_err-add_block-clause-adds : goal.returns-in_err-add_block-clause-adds
+returns-in_err-add_block-clause-adds g c before out bytes s room =
+    let w = c.args.self.now in
+    let p = c.in-Some.packing in
+    let records = c.args.block.now.items in
+    let some : w.packing ≡ Some p = sym (ap (λ (v : WriterSeen). v.packing) c.self.view_is) ∙ c.in-Some.is in
+    let named = c.as_str-name.ensures.value ∙ ap (λ (v : WriterSeen). v.name) c.self.view_is ∙ s.named in
+    let form = packed_form before _ w out bytes p s some in
+    let stands = subst (λ (n : List ℕ). PackedStands before (g.F.Files.seen c.args.files.now) n (front out) p bytes) (sym named) form.2.stands in
+    let left = c.in_err-add_block.ensures.adds before (front out) bytes stands (packed_room before _ w out bytes p s some (length bytes + length records) room) in
+    let made = ap (λ (n : List ℕ). with_bytes before n (take left.0 (front out ++ full_chunks p.plan (bytes ++ records)))) named ∙ ap (λ (t : List ℕ). with_bytes before out.name (take left.0 t)) (packed_stopped before _ w out bytes p s some (bytes ++ records)) in
+    either _ _ c.from_residual.result (IfOk-from_err c.from_residual.result _ c.from_residual.ensures.0) (if_err _ c.from_residual.result _ c.from_residual.ensures.1 (left.0, subst (λ (o : Outside). Stops c.in_err-add_block.field-0.0 o (g.F.Files.seen c.add_block.new.files)) made left.1))

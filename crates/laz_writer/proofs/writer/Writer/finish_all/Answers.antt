@@ -39,7 +39,7 @@ returns-in_err-patch_all-clause-stopped g c before out records s =
     let named = c.as_str.ensures.value ∙ ap (λ (v : WriterSeen). v.name) c.self.view_is ∙ ap (λ (v : WriterSeen). v.name) c.append_draft.ensures.same ∙ s.named in
     let held = c.in_ok-pointer.ensures.appended before out records s ∙ ap (λ (n : List ℕ). with_bytes before n draft) (sym named) in
     let fits = subst (All (LiesIn draft)) (sym list) (patches_fit out records s.head) in
-    let left = c.in_err-patch_all.ensures.stopped before draft held fits in
+    let left = c.in_err-patch_all.ensures.patched before draft held fits in
     if_err _ c.from_residual-in_err-patch_all.result _ c.from_residual-in_err-patch_all.ensures.1
     (left.0, inr (subst (λ (ps : List Patch). IsPatchedInPart draft ps left.0) list left.1), subst (λ (n : List ℕ). Stops c.in_err-patch_all.field-0.0 (with_bytes before n left.0) (g.F.Files.seen c.patch_all.new.files)) named left.2)
 
@@ -63,7 +63,7 @@ returns-in_err-patch_all-clause-fault g c =
     let list = c.as_slice.ensures.value ∙ list_is h.0 _ c.args.self.now c.append_draft.new.self h.1 h.2 _ c.in_ok-pointer.pointer h.3 c.append_draft.ensures.same c.in_ok-patches.ensures (c.in_ok-pointer.ensures.pointer h.0 h.1 h.2 h.3) in
     let named = c.as_str.ensures.value ∙ ap (λ (v : WriterSeen). v.name) c.self.view_is ∙ ap (λ (v : WriterSeen). v.name) c.append_draft.ensures.same ∙ h.3.named in
     let held = c.in_ok-pointer.ensures.appended h.0 h.1 h.2 h.3 ∙ ap (λ (n : List ℕ). with_bytes h.0 n draft) (sym named) in
-    let left = c.in_err-patch_all.ensures.stopped h.0 draft held (subst (All (LiesIn draft)) (sym list) (patches_fit h.1 h.2 h.3.head)) in
+    let left = c.in_err-patch_all.ensures.patched h.0 draft held (subst (All (LiesIn draft)) (sym list) (patches_fit h.1 h.2 h.3.head)) in
     if_err _ c.from_residual-in_err-patch_all.result _ c.from_residual-in_err-patch_all.ensures.1 (stops_kind c.in_err-patch_all.field-0.0 _ _ left.2)
 
 pub returns-in_err-patch_all-clause-write : goal.returns-in_err-patch_all-clause-write
@@ -73,7 +73,7 @@ returns-in_err-patch_all-clause-write g c of =
     let list = c.as_slice.ensures.value ∙ list_is h.0 _ c.args.self.now c.append_draft.new.self h.1 h.2 _ c.in_ok-pointer.pointer h.3 c.append_draft.ensures.same c.in_ok-patches.ensures (c.in_ok-pointer.ensures.pointer h.0 h.1 h.2 h.3) in
     let named = c.as_str.ensures.value ∙ ap (λ (v : WriterSeen). v.name) c.self.view_is ∙ ap (λ (v : WriterSeen). v.name) c.append_draft.ensures.same ∙ h.3.named in
     let held = c.in_ok-pointer.ensures.appended h.0 h.1 h.2 h.3 ∙ ap (λ (n : List ℕ). with_bytes h.0 n draft) (sym named) in
-    let left = c.in_err-patch_all.ensures.stopped h.0 draft held (subst (All (LiesIn draft)) (sym list) (patches_fit h.1 h.2 h.3.head)) in
+    let left = c.in_err-patch_all.ensures.patched h.0 draft held (subst (All (LiesIn draft)) (sym list) (patches_fit h.1 h.2 h.3.head)) in
     let text = held_text h.0 _ c.args.self.now h.1 h.2 h.3 in
     stops_rose (g.F.Files.seen c.args.files.now) _ (g.F.Files.seen c.patch_all.new.files) c.in_err-patch_all.field-0.0 (sym (ap (λ (o : Outside). o.write_faults) text.1)) left.2 (err_of c.from_residual-in_err-patch_all.result _ _ c.from_residual-in_err-patch_all.ensures.1 of)
 

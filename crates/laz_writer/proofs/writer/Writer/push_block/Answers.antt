@@ -25,19 +25,19 @@ returns-in-Err g c =
       stopped =
           λ before out bytes s. let room : length bytes + length c.args.block.now.items ≤ c.args.self.now.size *
           c.args.self.now.most = omega (arith, c.requires.most, s.taken) in
-          c.in-Err.ensures.stopped before out bytes s room;
+          c.in-Err.ensures.adds before out bytes s room;
       failed = search rules;
       fault = let h = c.requires.stands in
           let w = c.args.self.now in
           let room : length h.2 + length c.args.block.now.items ≤ w.size * w.most =
           omega (arith, c.requires.most, h.3.taken) in
-          let left = c.in-Err.ensures.stopped h.0 h.1 h.2 h.3 room in
+          let left = c.in-Err.ensures.adds h.0 h.1 h.2 h.3 room in
           stops_kind c.in-Err.fault _ _ left.1;
       write = λ of. let h = c.requires.stands in
           let w = c.args.self.now in
           let room : length h.2 + length c.args.block.now.items ≤ w.size * w.most =
           omega (arith, c.requires.most, h.3.taken) in
-          let left = c.in-Err.ensures.stopped h.0 h.1 h.2 h.3 room in
+          let left = c.in-Err.ensures.adds h.0 h.1 h.2 h.3 room in
           let held = held_text h.0 _ w h.1 h.2 h.3 in
           let is : c.in-Err.fault ≡ Write = cc in
           stops_rose (g.F.Files.seen c.args.files.now) _ (g.F.Files.seen c.append_block.new.files) c.in-Err.fault
@@ -73,7 +73,7 @@ returns g c =
                 c.append_block.new.self.packing;
           } in x) same in
           pushed before _ _ w _ out bytes records c.append_block.new.self.packing counts s c.requires.whole
-          c.requires.most is (c.in-Ok.ensures.points before out bytes s room)
+          c.requires.most is (c.in-Ok.ensures.adds before out bytes s room)
           (subst (λ (r : List ℕ). IsTally out.counted counts (records_after out.head bytes ++ cut_records w.size
           (length r / w.size) r)) c.deref.ensures.value
           (c.tallied-counts.ensures out.counted (records_after out.head bytes) s.tally));
@@ -88,7 +88,7 @@ returns g c =
           let room : length h.2 + length c.args.block.now.items ≤ w.size * w.most =
           omega (arith, c.requires.most, h.3.taken) in
           let held = held_text h.0 _ w h.1 h.2 h.3 in
-          let now = text_of h.1.chunk h.0 _ h.1 w.most _ _ (c.in-Ok.ensures.points h.0 h.1 h.2 h.3 room) in
+          let now = text_of h.1.chunk h.0 _ h.1 w.most _ _ (c.in-Ok.ensures.adds h.0 h.1 h.2 h.3 room) in
           calm_text h.0 _ _ h.1.name held.0 now.0 held.1 now.1;
       writes = c.append_block.ensures.writes;
     }

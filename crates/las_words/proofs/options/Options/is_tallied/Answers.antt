@@ -4,14 +4,14 @@ use Rattle.las_words.specs.declared.pieces.Piece.{Piece}
 use Rattle.las_words.specs.Texts.{texts}
 use Rattle.las_words.specs.Tallies.{tally_in}
 use Rattle.las_words.proofs.Gathered.{none_here, not_here, none_is, tally_is, word_after}
-use Rattle.las_words.proofs.tallies.is_tallied.Goals as goal
-use Rattle.las_words.proofs.tallies.is_tallied.Goals.{else-is_tally-via-then-is_tally+else-eq}
-use Rattle.las_words.proofs.tallies.is_tallied.Goals.{else-is_tally-via-else-is_tally}
+use Rattle.las_words.proofs.options.Options.is_tallied.Goals as goal
+use Rattle.las_words.proofs.options.Options.is_tallied.Goals.{else-is_tally-via-then-is_tally+else-eq}
+use Rattle.las_words.proofs.options.Options.is_tallied.Goals.{else-is_tally-via-else-is_tally}
 
 pub loop-piece-preserved : goal.loop-piece-preserved
 loop-piece-preserved c =
-    let words = texts c.args.words.now in
-    let pieces = c.args.pieces.now in
+    let words = texts c.args.self.now.words.now in
+    let pieces = c.args.self.now.pieces.now in
     elim c.else-is_tally.branch [
       | else-is_tally-via-then-is_tally+else-eq w ↦
           not_here (bytes_eq c.args.name.now) (λ (p : Piece). tally_in p.flag (drop (p.at + 1) words)) pieces

@@ -2,13 +2,13 @@ use Rattle.std.proofs.Common.{get_or, Some, None, sym, ◌∙◌, ap, append-nil
 use Rattle.las_words.specs.Texts.{texts}
 use Rattle.las_words.specs.Settings.{texts_of, value_by}
 use Rattle.las_words.proofs.Gathered.{gathered, value_is}
-use Rattle.las_words.proofs.settings.texts_of.Goals as goal
-use Rattle.las_words.proofs.settings.texts_of.Goals.{then-eq+in_ok-push_word, else-eq}
+use Rattle.las_words.proofs.options.Options.texts_of.Goals as goal
+use Rattle.las_words.proofs.options.Options.texts_of.Goals.{then-eq+in_ok-push_word, else-eq}
 
 pub loop-piece-preserved : goal.loop-piece-preserved
 loop-piece-preserved c =
-    let words = texts c.args.words.now in
-    let pieces = c.args.pieces.now in
+    let words = texts c.args.self.now.words.now in
+    let pieces = c.args.self.now.pieces.now in
     let name = c.args.name.now in
     let piece = get_or pieces c.loop-piece.piece-index (record { at = 0; flag = None }) in
     let found = texts c.loop-piece.found.items in

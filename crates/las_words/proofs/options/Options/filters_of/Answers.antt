@@ -3,13 +3,13 @@ use Rattle.las_words.specs.declared.pieces.Piece.{Piece}
 use Rattle.las_words.specs.Texts.{texts}
 use Rattle.las_words.specs.Plans.{filter_in, filters_of}
 use Rattle.las_words.proofs.Gathered.{gathered}
-use Rattle.las_words.proofs.plan.filters_of.Goals as goal
-use Rattle.las_words.proofs.plan.filters_of.Goals.{in-Some+in_ok-push, in_default}
+use Rattle.las_words.proofs.options.Options.filters_of.Goals as goal
+use Rattle.las_words.proofs.options.Options.filters_of.Goals.{in-Some+in_ok-push, in_default}
 
 pub loop-piece-preserved : goal.loop-piece-preserved
 loop-piece-preserved c =
-    let words = texts c.args.words.now in
-    let pieces = c.args.pieces.now in
+    let words = texts c.args.self.now.words.now in
+    let pieces = c.args.self.now.pieces.now in
     let found = c.loop-piece.keeps.items in
     let now = c.match-filter_in.keeps.items in
     let all = filters_of words pieces in

@@ -3,13 +3,13 @@ use Rattle.std.specs.Str.{bytes_eq}
 use Rattle.las_words.specs.Texts.{texts}
 use Rattle.las_words.specs.Settings.{value_by}
 use Rattle.las_words.proofs.Gathered.{none_here, not_here, value_is}
-use Rattle.las_words.proofs.settings.is_value.Goals as goal
-use Rattle.las_words.proofs.settings.is_value.Goals.{else-eq-via-then-eq+else-eq-2, else-eq-via-else-eq}
+use Rattle.las_words.proofs.options.Options.is_value.Goals as goal
+use Rattle.las_words.proofs.options.Options.is_value.Goals.{else-eq-via-then-eq+else-eq-2, else-eq-via-else-eq}
 
 pub loop-piece-preserved : goal.loop-piece-preserved
 loop-piece-preserved c =
-    let words = texts c.args.words.now in
-    let pieces = c.args.pieces.now in
+    let words = texts c.args.self.now.words.now in
+    let pieces = c.args.self.now.pieces.now in
     let name = c.args.name.now in
     let text = c.args.text.now in
     let index = c.loop-piece.piece-index in

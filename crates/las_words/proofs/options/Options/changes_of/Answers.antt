@@ -3,13 +3,13 @@ use Rattle.las_words.specs.declared.pieces.Piece.{Piece}
 use Rattle.las_words.specs.Texts.{texts}
 use Rattle.las_words.specs.Plans.{change_in, changes_given}
 use Rattle.las_words.proofs.Gathered.{gathered}
-use Rattle.las_words.proofs.plan.changes_of.Goals as goal
-use Rattle.las_words.proofs.plan.changes_of.Goals.{in-Some+in_ok-push, in_default}
+use Rattle.las_words.proofs.options.Options.changes_of.Goals as goal
+use Rattle.las_words.proofs.options.Options.changes_of.Goals.{in-Some+in_ok-push, in_default}
 
 pub loop-piece-preserved : goal.loop-piece-preserved
 loop-piece-preserved c =
-    let words = texts c.args.words.now in
-    let pieces = c.args.pieces.now in
+    let words = texts c.args.self.now.words.now in
+    let pieces = c.args.self.now.pieces.now in
     let found = c.loop-piece.changes.items in
     let now = c.match-change_in.changes.items in
     let all = changes_given words pieces in

@@ -3,13 +3,13 @@ use Rattle.las_words.specs.declared.pieces.Piece.{Piece}
 use Rattle.las_words.specs.Texts.{texts}
 use Rattle.las_words.specs.Tallies.{tally_in, tallies_of}
 use Rattle.las_words.proofs.Gathered.{gathered, none_is, tally_is, word_after}
-use Rattle.las_words.proofs.tallies.tallies_of.Goals as goal
-use Rattle.las_words.proofs.tallies.tallies_of.Goals.{then-is_tally+in_ok-push_word, else-is_tally}
+use Rattle.las_words.proofs.options.Options.tallies_of.Goals as goal
+use Rattle.las_words.proofs.options.Options.tallies_of.Goals.{then-is_tally+in_ok-push_word, else-is_tally}
 
 pub loop-piece-preserved : goal.loop-piece-preserved
 loop-piece-preserved c =
-    let words = texts c.args.words.now in
-    let pieces = c.args.pieces.now in
+    let words = texts c.args.self.now.words.now in
+    let pieces = c.args.self.now.pieces.now in
     let found = texts c.loop-piece.tallies.items in
     let now = texts c.if-is_tally.tallies.items in
     let all = tallies_of words pieces in

@@ -1,7 +1,0 @@
-use Rattle.std.proofs.Common.{◌≡◌, ◌++◌, drop}
-use Rattle.las_words.specs.Texts.{texts}
-use Rattle.las_words.specs.Plans.{filters_of}
-use Rattle.las_words.proofs.plan.filters_of.Given as goal
-
-abbrev pub invariant-loop-piece : goal.invariant-loop-piece
-invariant-loop-piece l = l.keeps.items ++ filters_of (texts l.words) (drop l.piece-index l.pieces) ≡ filters_of (texts l.words) l.pieces

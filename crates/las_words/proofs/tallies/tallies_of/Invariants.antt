@@ -1,7 +1,0 @@
-use Rattle.std.proofs.Common.{◌≡◌, ◌++◌, drop}
-use Rattle.las_words.specs.Texts.{texts}
-use Rattle.las_words.specs.Tallies.{tallies_of}
-use Rattle.las_words.proofs.tallies.tallies_of.Given as goal
-
-abbrev pub invariant-loop-piece : goal.invariant-loop-piece
-invariant-loop-piece l = texts l.tallies.items ++ tallies_of (texts l.words) (drop l.piece-index l.pieces) ≡ tallies_of (texts l.words) l.pieces
