@@ -1,8 +1,10 @@
 """What every check gets: the program that is checked, a place to work in, a small disk, and what a check needs."""
 import os
+import shlex
 import shutil
 import subprocess
 import sys
+import tempfile
 from pathlib import Path
 
 import pytest
@@ -47,7 +49,23 @@ def pytest_configure(config):
     os.environ.pop("LAS_PROGRAM", None)
     if named:
         config.option.program = programs.named = os.path.abspath(named)
+    if not hasattr(config, "workerinput"):
+        find_python_first(config)
     needs.required = any(config.getoption(word) for word in ("--all", "--huge", "--browser"))
+
+
+def find_python_first(config):
+    """`python3`, by which las-batch is started, is the Python of the suite: what has that name may be a script that
+    looks for one, as pyenv's, which takes longer than las-batch does.
+    """
+    folder = tempfile.mkdtemp(prefix="checks-")
+    config.add_cleanup(lambda: shutil.rmtree(folder, ignore_errors=True))
+    python = os.path.join(folder, "python3")
+    with open(python, "w", encoding="utf-8") as file:
+        file.write(f'#!/bin/sh\nexec {shlex.quote(sys.executable)} "$@"\n')
+    os.chmod(folder, 0o755)
+    os.chmod(python, 0o755)
+    os.environ["PATH"] = f"{folder}:{os.environ['PATH']}"
 
 
 def pytest_report_header(config):

@@ -4,7 +4,8 @@
  * CALLS_BELOW  the folder
  * CALLS_LOG    a file that gets a line for each call: its kind, the inode of what it is about, and what else it says
  * CALLS_AT     which of the calls, counted from 1
- * CALLS_HOW    what becomes of that one: fails, before (the program dies before it), after
+ * CALLS_HOW    what becomes of that one: fails, before (the program dies before it), after; full: from it on each call
+ *              that takes room on a disk fails, to the end
  * CALLS_ERROR  the number of the error of a call that fails
  *
  * Close is done even if it is made to fail, as Linux does it.
@@ -75,8 +76,13 @@ static void say(const char *line, size_t length) {
 }
 
 /* Counts a call; 1 if it is to fail, with errno set. Dies here if that is asked for. */
-static int counted(void) {
-    if (atomic_fetch_add(&calls, 1) + 1 != atol(setting("CALLS_AT")))
+static int counted(int takes_room) {
+    long number = atomic_fetch_add(&calls, 1) + 1, at = atol(setting("CALLS_AT"));
+    if (strcmp(setting("CALLS_HOW"), "full") == 0 && at > 0 && number >= at && takes_room) {
+        errno = ENOSPC;
+        return 1;
+    }
+    if (number != at)
         return 0;
     if (strcmp(setting("CALLS_HOW"), "before") == 0)
         raise(SIGKILL);
@@ -116,7 +122,7 @@ static int opened(int folder, const char *name, int flags, mode_t mode) {
     whole_path(folder, name, path, sizeof path);
     int watched = is_below(path) && (flags & (O_WRONLY | O_RDWR | O_CREAT | O_DIRECTORY));
     int is_new = syscall(SYS_faccessat, folder, name, F_OK) != 0;
-    if (watched && counted())
+    if (watched && counted((flags & O_CREAT) && is_new))
         return -1;
     int fd = (int)syscall(SYS_openat, folder, name, flags, mode);
     struct stat found;
@@ -151,7 +157,7 @@ OPENS_AT(openat64)
 
 ssize_t write(int fd, const void *bytes, size_t count) {
     int watched = fd_is_below(fd);
-    if (watched && counted())
+    if (watched && counted(1))
         return -1;
     off_t at = watched ? (off_t)syscall(SYS_lseek, fd, 0, SEEK_CUR) : 0;
     ssize_t put = syscall(SYS_write, fd, bytes, count);
@@ -162,7 +168,7 @@ ssize_t write(int fd, const void *bytes, size_t count) {
 
 static ssize_t put_at(int fd, const void *bytes, size_t count, off_t at) {
     int watched = fd_is_below(fd);
-    if (watched && counted())
+    if (watched && counted(1))
         return -1;
     ssize_t put = syscall(SYS_pwrite64, fd, bytes, count, at);
     if (watched && put >= 0)
@@ -183,7 +189,7 @@ ssize_t copy_file_range(int from, off64_t *at, int to, off64_t *to_at, size_t co
 static int on_fd(const char *kind, int fd, long call, const char *more, long first, long second) {
     int watched = fd_is_below(fd);
     unsigned long number = watched ? inode(fd) : 0;
-    if (watched && counted()) {
+    if (watched && counted(call == SYS_fsync || call == SYS_fdatasync || call == SYS_ftruncate)) {
         if (call == SYS_close)
             syscall(SYS_close, fd);
         return -1;
@@ -214,7 +220,7 @@ static int moved(int from, const char *name, int to, const char *new_name, unsig
     char more[8192];
     whole_path(from, name, more, 4000);
     int watched = is_below(more);
-    if (watched && counted())
+    if (watched && counted(0))
         return -1;
     size_t length = strlen(more);
     more[length++] = '\t';
@@ -232,7 +238,7 @@ static int removed(int folder, const char *name, int flags) {
     char path[8192];
     whole_path(folder, name, path, sizeof path);
     int watched = is_below(path);
-    if (watched && counted())
+    if (watched && counted(0))
         return -1;
     int answer = (int)syscall(SYS_unlinkat, folder, name, flags);
     if (watched && answer == 0)
@@ -249,7 +255,7 @@ static int on_name(const char *kind, int folder, const char *name, long call, lo
     struct stat found;
     whole_path(folder, name, line, 4000);
     int watched = is_below(line);
-    if (watched && counted())
+    if (watched && counted(call != SYS_fchmodat))
         return -1;
     int answer = call == SYS_symlinkat ? (int)syscall(call, more, folder, name) : (int)syscall(call, folder, name, first);
     if (watched && answer == 0) {

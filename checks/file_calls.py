@@ -35,7 +35,7 @@ class Watcher:
 
     def run(self, *line: str, at: int = 0, how: str = "", error: int = EIO,
             **more: str) -> "subprocess.CompletedProcess[bytes]":
-        """A run; `how` says what becomes of its call number `at`: fails, before, after."""
+        """A run; `how` says what becomes of its call number `at`: fails, before, after; full: no room from it on."""
         self.log.unlink(missing_ok=True)
         environment = {**os.environ, "LD_PRELOAD": str(self.library), "CALLS_BELOW": str(self.watched),
                        "CALLS_LOG": str(self.log), "CALLS_AT": str(at), "CALLS_HOW": how, "CALLS_ERROR": str(error),

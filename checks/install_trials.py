@@ -15,7 +15,16 @@ COUNTED = r"""#!/bin/sh
 read -r count <"$COUNT"
 count=$((count + 1))
 printf '%s\n' "$count" >"$COUNT"
-if [ "$count" -eq "$AT" ]; then
+if [ "$HOW" = full ] && [ "$AT" -gt 0 ] && [ "$count" -ge "$AT" ]; then
+    # of a copy there is a first part
+    case ${0##*/} in
+    cp) while [ $# -gt 2 ]; do shift; done; head -c 20 -- "$1" >"$2" ;;
+    ln | mkdir | mktemp | sync) ;;
+    *) exec "$REAL/${0##*/}" "$@" ;;
+    esac
+    echo "${0##*/}: No space left on device" >&2
+    exit 1
+elif [ "$count" -eq "$AT" ]; then
     case $HOW in
     fails) echo "${0##*/}: No space left on device" >&2 && exit 1 ;;
     before) kill -9 0 ;;
@@ -37,7 +46,8 @@ def program_of(version: int) -> bytes:
 class Trial:
     """A small checkout with this repository's `install`, a prefix, and a count of the steps."""
 
-    def __init__(self, folder: Path, prefix: Optional[Path] = None) -> None:
+    def __init__(self, folder: Path, prefix: Optional[Path] = None, whole: bool = True) -> None:
+        """Without `whole` the package `batch` has one file alone, which the others would be installed like."""
         self.folder = folder / "checkout"
         self.prefix = prefix or folder / "prefix"
         self.temporary = folder / "temporary"
@@ -45,13 +55,13 @@ class Trial:
         self.tools = folder / "tools"
         for new in (self.folder, self.temporary, self.tools):
             new.mkdir()
-        self._copy()
+        self._copy(whole)
         self.release(1)
         for name in CHANGING:
             (self.tools / name).write_text(COUNTED)
             (self.tools / name).chmod(0o755)
 
-    def _copy(self) -> None:
+    def _copy(self, whole: bool) -> None:
         for name in ("las", "install", "las-batch", "las-batch-job"):
             shutil.copy(TOP / name, self.folder / name)
         for name in ("help", "c"):
@@ -64,6 +74,9 @@ class Trial:
         for path in sorted((self.folder / "help" / "commands").iterdir()):
             if path.name != "laszip":
                 path.unlink()  # fewer files, fewer steps
+        if not whole:
+            for path in (self.folder / "batch").glob("[a-z]*.py"):
+                path.unlink()
         (self.folder / "crates" / "las" / "src").mkdir(parents=True)
         (self.folder / "crates" / "las" / "src" / "lib.rt").write_text("fn main() {}\n")
         (self.folder / "crates.txt").write_text("las:\n")
@@ -93,7 +106,9 @@ class Trial:
         (self.folder / "release" / "BUILT_FROM").write_text("".join(line + "\n" for line in lines))
 
     def run(self, *words: str, at: int = 0, how: str = "", **more: Any) -> "subprocess.CompletedProcess[bytes]":
-        """A run of a command; `how` says what becomes of its step number `at`: fails, before, after, interrupt."""
+        """A run of a command; `how` says what becomes of its step number `at`: fails, before, after, interrupt, full
+        (the disk is full from it on).
+        """
         real = os.path.dirname(shutil.which("cp") or "/usr/bin/cp")
         environment = {**os.environ, "TMPDIR": str(self.temporary), "COUNT": str(self.count), "AT": str(at), "HOW": how,
                        "REAL": real, "HOME": str(self.folder), **more}

@@ -65,7 +65,7 @@ def decode(tmp_path_factory: pytest.TempPathFactory) -> Path:
     return built(tmp_path_factory.mktemp("fuzz"))
 
 
-@pytest.mark.slow  # laz_c is proved once more for it, which takes more than the minute
+@pytest.mark.slow(seconds=125)  # laz_c is proved once more for it, which takes more than the minute
 def test_a_minute_finds_nothing(decode: Path, tmp_path: Path) -> None:
     status, said = run_for(SECONDS, decode, tmp_path)
     assert status == 0, said[-5000:]

@@ -11,6 +11,7 @@ from file_calls import Call, Watcher
 from install_trials import Trial, differences, final
 
 HOWS = ["fails", "before", "after", "interrupt"]
+FULL = "full"  # no room from that step to the end
 SHARES = 16
 # the first share in the gate, the others beside it
 SHARE = [pytest.param(share, marks=pytest.mark.huge if share else pytest.mark.slow(seconds=5))
@@ -18,15 +19,17 @@ SHARE = [pytest.param(share, marks=pytest.mark.huge if share else pytest.mark.sl
 
 
 def chosen(steps: int, how: str, share: int) -> "list[int]":
-    """The steps of a share of them. Each way to end takes every third one, so that each step is met by one or two."""
-    mine = range(1 + HOWS.index(how) % 3, steps + 1, 3)
+    """The steps of a share of them. Each way to end takes every third one, so that each step is met by one or two. A
+    full disk takes every second one, since of two steps in a row no more than one is a copy.
+    """
+    mine = range(1, steps + 1, 2) if how == FULL else range(1 + HOWS.index(how) % 3, steps + 1, 3)
     return list(mine)[share::SHARES]
 
 
 @pytest.fixture
 def trial(tmp_path: Path) -> Trial:
     tmp_path.chmod(0o755)
-    it = Trial(tmp_path)
+    it = Trial(tmp_path, whole=False)
     it.prefix.mkdir()
     return it
 
@@ -52,26 +55,30 @@ def whole(trial: Trial) -> "dict[str, object]":
 
 
 @pytest.mark.parametrize("share", SHARE)
-@pytest.mark.parametrize("how", HOWS)
+@pytest.mark.parametrize("how", [*HOWS, FULL])
 def test_a_first_install_that_ends_at_a_step_is_mended_by_the_next(trial: Trial, how: str, share: int) -> None:
     wanted = whole(trial)
     steps = trial.steps()
     assert trial.install("--remove").returncode == 0
     assert steps > 20
+    failures = 0
     for at in chosen(steps, how, share):
-        trial.install(at=at, how=how)
+        ended = trial.install(at=at, how=how)
         left = final(trial.tree())
         assert left.items() <= final(wanted).items(), (at, differences(left, final(wanted)))
+        assert ended.returncode != 0 or left == final(wanted), at
+        failures += ended.returncode != 0
         again = trial.install()
         assert again.returncode == 0, (at, again.stderr)
         assert same(trial, wanted) == [], at
         removed = trial.install("--remove")
         assert (removed.returncode, removed.stderr) == (0, b""), at
         assert is_empty(trial), at
+    assert failures > 0
 
 
 @pytest.mark.parametrize("share", SHARE)
-@pytest.mark.parametrize("how", HOWS)
+@pytest.mark.parametrize("how", [*HOWS, FULL])
 def test_an_upgrade_that_ends_at_a_step_leaves_a_program_that_runs(trial: Trial, how: str, share: int) -> None:
     trial.release(2)
     wanted = whole(trial)
@@ -110,11 +117,11 @@ def test_an_install_that_was_cut_off_can_be_removed(trial: Trial, how: str) -> N
 
 
 @pytest.mark.slow
-@pytest.mark.parametrize("how", HOWS)
+@pytest.mark.parametrize("how", [*HOWS, FULL])
 def test_a_removal_that_ends_at_a_step_can_be_repeated(trial: Trial, how: str) -> None:
     assert trial.install().returncode == 0
     steps = trial.steps("--remove")
-    for at in range(1 + HOWS.index(how), steps + 1, 24):
+    for at in range(1 + [*HOWS, FULL].index(how), steps + 1, 24):
         assert trial.install().returncode == 0
         (trial.prefix / "bin" / "mine").write_bytes(b"mine")
         trial.install("--remove", at=at, how=how)
@@ -166,7 +173,7 @@ def test_a_disk_that_is_full_at_any_place(tmp_path: Path, small_disk) -> None:
     """The disk has room for a number of blocks; then it gets room, and the same line installs."""
     disk = small_disk(64_000_000)
     tmp_path.chmod(0o755)
-    trial = Trial(tmp_path, disk / "prefix")
+    trial = Trial(tmp_path, disk / "prefix", whole=False)
     trial.prefix.mkdir()
     wanted = whole(trial)
 
@@ -195,7 +202,7 @@ def test_a_disk_that_is_full_at_any_place(tmp_path: Path, small_disk) -> None:
 def test_an_upgrade_on_a_full_disk_leaves_what_is_installed(tmp_path: Path, small_disk) -> None:
     disk = small_disk(64_000_000)
     tmp_path.chmod(0o755)
-    trial = Trial(tmp_path, disk / "prefix")
+    trial = Trial(tmp_path, disk / "prefix", whole=False)
     assert trial.install().returncode == 0
     before = trial.tree()
     used = int(subprocess.run(["du", "-s", "-B4096", str(disk)], stdout=subprocess.PIPE, check=True).stdout.split()[0])

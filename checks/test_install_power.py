@@ -19,7 +19,7 @@ class Cuts:
 
     def __init__(self, folder: Path, upgrades: bool) -> None:
         folder.chmod(0o755)
-        self.trial = Trial(folder)
+        self.trial = Trial(folder, whole=False)
         self.trial.prefix.mkdir()
         if upgrades:
             assert self.trial.install().returncode == 0

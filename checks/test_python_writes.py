@@ -80,6 +80,25 @@ def test_each_call_that_fails_leaves_the_older_file(trial: Trial, error: int) ->
             assert done.returncode != 0 and b"OSError" in done.stderr, (at, done.stderr)
 
 
+def test_a_disk_that_is_full_from_each_call_on_leaves_the_older_file(trial: Trial) -> None:
+    """Nothing has room from a call to the end: the draft goes, the older file stays, and there is room again later."""
+    assert trial.write().returncode == 0
+    count = len(trial.watcher.calls())
+    failures = 0
+    for at in range(1, count + 1):
+        trial.again()
+        done = trial.write(at=at, how="full")
+        found = {path.name: path.read_bytes() for path in trial.folder.iterdir()}
+        assert set(found) == {"a.laz"}, at
+        assert found["a.laz"] == (trial.old if done.returncode else trial.new) or b"OSError" in done.stderr, at
+        failures += done.returncode != 0
+        if done.returncode:
+            assert b"No space left on device" in done.stderr, (at, done.stderr)
+        assert trial.write().returncode == 0
+        assert trial.name.read_bytes() == trial.new
+    assert failures > 4
+
+
 @pytest.mark.parametrize("how", ["before", "after"])
 def test_a_kill_at_each_call_leaves_a_whole_file(trial: Trial, how: str) -> None:
     assert trial.write().returncode == 0
