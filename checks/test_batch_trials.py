@@ -9,7 +9,7 @@ from pathlib import Path
 import pytest
 
 import needs
-from batch_trials import PLAIN_WORDS, TAKING, TELLING, Trials
+from batch_trials import PLAIN_WORDS, TAKING, TELLING, WORDS, Trials
 
 PARTS = 32  # of all calls, beside the first
 
@@ -101,6 +101,22 @@ def test_a_full_disk_at_some_calls(trials, fault):
 def test_a_full_disk_at_each_call(trials, part, fault):
     calls = trials.calls()
     full_disk(trials, those_of(part, calls), calls, **fault)
+
+
+# the calls that a full disk lets fail: those between them are no other trial
+ROOM = {"write", "pwrite64", "fsync", "fdatasync", "mkdir", "linkat"}
+
+
+@pytest.mark.huge
+@pytest.mark.parametrize("share", range(6))
+@pytest.mark.parametrize("words", [WORDS, PLAIN_WORDS], ids=["-verify -delete", "plain"])
+def test_a_disk_that_is_full_from_each_call_on(trials, words, share):
+    """Every call that takes room, and all that follow it, to the end of the run."""
+    trials.words = words
+    calls = trials.calls()
+    chosen = [at for at, name in enumerate(calls, 1) if name in ROOM]
+    assert len(chosen) > 60, calls
+    full_disk(trials, chosen[share::6], calls, stays=1)
 
 
 @every_part
