@@ -3,7 +3,6 @@ from __future__ import annotations
 
 import os
 import re
-from dataclasses import dataclass, field
 from typing import Optional
 
 from .texts import quoted, refuse
@@ -14,15 +13,15 @@ VALUES = ("odir", "lof", "jobs", "hosts", "retries", "log", "state", "trash", "m
 FLAGS = ("r", "force", "verify", "delete", "ship", "slurm", "resume", "quiet", "adopt", "check", "keep-times", "bag")
 
 
-@dataclass
 class Words:
     """What was asked for: a command of `las` with its words, inputs, and options of las-batch."""
 
-    command: str = ""
-    words: list[bytes] = field(default_factory=list)
-    inputs: list[bytes] = field(default_factory=list)
-    values: dict[str, str] = field(default_factory=dict)
-    flags: set[str] = field(default_factory=set)
+    def __init__(self, command: str = "", words: Optional[list[bytes]] = None,
+                 flags: Optional[set[str]] = None) -> None:
+        # (no dataclass: its module would be a fifth of what is loaded before GNU parallel is started)
+        self.command, self.words, self.flags = command, words or [], flags or set()
+        self.inputs: list[bytes] = []
+        self.values: dict[str, str] = {}
 
     def value(self, name: str) -> Optional[bytes]:
         return os.fsencode(self.values[name]) if name in self.values else None

@@ -4,7 +4,6 @@ import shutil
 import signal
 import subprocess
 import tempfile
-import time
 from pathlib import Path
 
 import pytest
@@ -60,7 +59,9 @@ def test_a_job_array_and_its_resume(tiles, cluster):
 
 def test_an_array_goes_on_after_a_kill_and_resume_takes_its_rows_in(tiles, cluster):
     words = ["laszip", "-odir", "out", "-slurm", "-verify", "-delete", *tiles.names(0, 12)]
-    with tiles.running(*words, las=tiles.slow(0.5), environment=cluster.environment) as run:
+    las = str(tiles.command("las", f'[ "$1" != --version ] || exit 1\necho "$1" >>{tiles.path("ran")}\nsleep 0.5\n'
+                            f'exec {tiles.program} "$@"'))
+    with tiles.running(*words, las=las, environment=cluster.environment) as run:
         assert wait_until(lambda: queued(cluster))
         assert wait_until(lambda: list(tiles.path("out/.las-batch").glob("run.*/rows.*")))
         os.kill(run.pid, signal.SIGKILL)
@@ -69,9 +70,9 @@ def test_an_array_goes_on_after_a_kill_and_resume_takes_its_rows_in(tiles, clust
     refused = tiles.batch("-resume", "-odir", "out", "-slurm", environment=cluster.environment)
     ended(refused, 2, b"the job array still runs")
     assert wait_until(lambda: not queued(cluster))
-    started = time.monotonic()
-    ended(tiles.batch("-resume", "-odir", "out", environment=cluster.environment), 0, b"12 done, 0 not")
-    assert time.monotonic() - started < 5, "the jobs ran again"
+    assert len(tiles.path("ran").read_text().splitlines()) == 24
+    ended(tiles.batch("-resume", "-odir", "out", las=las, environment=cluster.environment), 0, b"12 done, 0 not")
+    assert len(tiles.path("ran").read_text().splitlines()) == 24, "the jobs ran again"
     assert tiles.outputs("out") == tiles.stock.some(12)
     assert len(tiles.outputs("tiles")) == 188
     assert tiles.parts() == []
