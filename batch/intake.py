@@ -397,7 +397,10 @@ class Settler:
         """A job whose input had a hidden name: it is removed if it is the file that was compared, or put back."""
         seen = look(job.hidden, follow=True)
         if seen is None:
-            job.removal = KEPT if look(job.input) else REMOVED
+            there = look(job.input, follow=True)
+            job.removal = KEPT if there else REMOVED
+            if there and there.same_file(job.source):
+                job.source = there  # put back, which sets its ctime; its sum is compared before it is removed
         elif self.finish and job.source and seen[1:4] == job.source[1:4] and digest(job.hidden)[1] == job.input_sum \
                 and self.is_at(job, job.output):
             try:

@@ -10,7 +10,7 @@ INPUTS = ["tiles/a.las", "tiles/b.las"]
 WORDS = ["laszip", "-odir", "out", "-verify", "-delete", *INPUTS]
 PLAIN_WORDS = ["laszip", "-odir", "out", *INPUTS]
 TELLING = {"rename", "renameat2", "unlink", "rmdir"}
-TAKING = ["write", "pwrite64", "fsync", "fdatasync", "mkdir", "open64", "rename", "renameat2"]
+TAKING = ["write", "pwrite64", "fsync", "fdatasync", "mkdir", "open64", "rename", "renameat2", "unlink"]
 
 
 class Trials(Tiles):
