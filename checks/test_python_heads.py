@@ -201,3 +201,10 @@ def test_writing_under_another_scale_is_refused(it, tmp_path):
     with pytest.raises(ValueError, match="rescaled"):
         it.write(tmp_path / "a.las", points.head.changed(offsets=(1, 0, 0)), points)
     assert list(tmp_path.iterdir()) == []
+
+
+def test_named_extra_bytes_of_a_head_are_not_assigned(it):
+    head = it.Head.new(0).with_extra_bytes(it.ExtraBytes.new("height", "f4"))
+    with pytest.raises(TypeError):
+        head.extra_bytes["width"] = head.extra_bytes["height"]
+    assert list(head.extra_bytes) == ["height"]

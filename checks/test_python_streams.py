@@ -336,3 +336,23 @@ def test_memory_does_not_grow_with_the_file(it, tmp_path):
 def test_a_file_of_2_gb_takes_less_than_300_mb(it, tmp_path):
     made, filtered, _ = memory(it, tmp_path, 4, "plain", 63)
     assert max(made, filtered) < 300
+
+
+@pytest.mark.parametrize("end", [".las", ".laz"])
+def test_head_and_count_of_a_writer_are_not_set(it, files, tmp_path, end):
+    """The bytes before the points are in the file already: another head would not fit them."""
+    points = it.read(files / "1_1.las")
+    with it.create(tmp_path / f"a{end}", points.head) as out:
+        out.write(points)
+        for name, value in (("head", points.head.changed(crs=32633)), ("points", 5), ("heads", 1)):
+            with pytest.raises(AttributeError, match=name):
+                setattr(out, name, value)
+    assert (out.points, out.head.points) == (1000, 1000)
+    assert it.read(tmp_path / f"a{end}").tobytes() == points.tobytes()
+
+
+def test_assignments_to_the_points_of_an_open_file_stay(it, files):
+    with it.open(files / "1_1.laz") as file:
+        file.points.classification[:] = 6
+        assert (file.points.classification == 6).all()
+        assert not (file.read().classification == 6).all()

@@ -4,6 +4,7 @@ from __future__ import annotations
 import datetime
 import struct
 import uuid
+from types import MappingProxyType
 from typing import Any, Iterable, Mapping, Sequence
 
 import numpy as np
@@ -237,10 +238,13 @@ class Head:
 
     @property
     def extra_bytes(self) -> Mapping[str, ExtraBytes]:
-        """The named fields of extra bytes, as the Extra Bytes VLR describes them, by their names."""
+        """The named fields of extra bytes, as the Extra Bytes VLR describes them, by their names; to be read alone.
+
+        `with_extra_bytes` and `without_extra_bytes` give other heads.
+        """
         if "extra" not in self._found:
             self._found["extra"] = extra_module.by_name(self._described(), self.extra)
-        return dict(self._found["extra"])
+        return MappingProxyType(self._found["extra"])
 
     def _described(self) -> list[ExtraBytes]:
         vlr = self.vlrs.get(extra_module.USER_ID, extra_module.RECORD_ID)

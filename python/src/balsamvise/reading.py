@@ -43,6 +43,7 @@ class LasFile:
 
     def __init__(self, source: Path | BinaryIO) -> None:
         self._source: PathSource | StreamSource
+        self._points: Points | None = None
         self._firsts: EvenSums | Sums
         if isinstance(source, (str, os.PathLike)):
             self._source = PathSource(os.fspath(source))
@@ -120,8 +121,10 @@ class LasFile:
 
     @property
     def points(self) -> Points:
-        """All point records, read by one thread each time."""
-        return self.read()
+        """All point records, read by one thread when they are first asked for. What is assigned to them stays."""
+        if self._points is None:
+            self._points = self.read()
+        return self._points
 
     def __repr__(self) -> str:
         kind = f"packed in {len(self._firsts)} chunks" if self.is_packed else "plain"

@@ -4,7 +4,7 @@ from __future__ import annotations
 import os
 from array import array
 from types import TracebackType
-from typing import BinaryIO, Tuple
+from typing import Any, BinaryIO, Tuple
 
 import numpy as np
 
@@ -36,18 +36,13 @@ class LasWriter:
     points, the file is synced, and takes its name. If the block ends by an error, what stood under the name stays.
     """
 
-    head: Head
-    """The head, as it was given; when the file is closed, as it stands in the file."""
-    points: int
-    """How many points are written so far."""
-
     def __init__(self, target: Path | BinaryIO, head: Head, *, packed: bool | None, chunk: int, threads: int,
                  bounds: bool, progress: Progress = None, total: int | None = None) -> None:
         checked_threads(threads)
         if not 1 <= chunk <= MAX_CHUNK and chunk != library.COUNTED:
             raise ValueError(f"chunk is {chunk}, and not 1 to {MAX_CHUNK}")
-        self.head = _checked(head)
-        self.points = 0
+        self._head = _checked(head)
+        self._points = 0
         self._is_open = False
         self._failed = False
         self._dtype = dtype_of(head.format, head.extra)
@@ -78,6 +73,21 @@ class LasWriter:
         except BaseException as error:
             self._leave(error)
             raise
+
+    @property
+    def head(self) -> Head:
+        """The head, as it was given; when the file is closed, as it stands in the file."""
+        return self._head
+
+    @property
+    def points(self) -> int:
+        """How many points are written so far."""
+        return self._points
+
+    def __setattr__(self, name: str, value: Any) -> None:
+        if not name.startswith("_"):
+            raise AttributeError(f"{name} of a file that is written can't be set: its head is given to create")
+        super().__setattr__(name, value)
 
     def __enter__(self) -> LasWriter:
         return self
@@ -132,7 +142,7 @@ class LasWriter:
             raise
 
     def _put_records(self, records: Array, borrowed: bool) -> None:
-        self.points += len(records)
+        self._points += len(records)
         if not self._packed:
             self._tally.add([Tally.of(records)])
             self._file.write(records.view(np.uint8).data)
@@ -210,7 +220,7 @@ class LasWriter:
             if self._sizes is None and chunk.points != self._chunk:
                 self.write(chunk.unpacked())
             else:
-                self.points += chunk.points
+                self._points += chunk.points
                 for packed in self._pool.submit(chunk.counted):
                     self._put(*packed)
 
@@ -237,7 +247,7 @@ class LasWriter:
         for packed in self._pool.drain():
             self._put(*packed)
         length = len(self._front())
-        self.head = self.head.counted(self._tally, self.head.format, self.head.extra, self._bounds)
+        self._head = self.head.counted(self._tally, self.head.format, self.head.extra, self._bounds)
         front = self._front()
         if self._packed:
             place = length + sum(self._counts)
