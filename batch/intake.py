@@ -19,7 +19,7 @@ from .words import made_by
 FAULTS = (OSError, sqlite3.Error)
 CHANGED = "changed"
 OTHER = "no output", b"what the job made is another file now"
-SYNCS = 8  # drafts that are brought to the disk at a time
+SYNCS = 32  # drafts that are brought to the disk at a time: those of one commit of its journal
 
 
 class Clash(Exception):
