@@ -27,9 +27,10 @@ def chosen(steps: int, how: str, share: int) -> "list[int]":
 
 
 @pytest.fixture
-def trial(tmp_path: Path) -> Trial:
+def trial(tmp_path: Path, request: pytest.FixtureRequest) -> Trial:
+    """All files are installed beside the gate, and one of las-batch's in the gate, where the others are of its kind."""
     tmp_path.chmod(0o755)
-    it = Trial(tmp_path, whole=False)
+    it = Trial(tmp_path, whole=request.node.get_closest_marker("huge") is not None)
     it.prefix.mkdir()
     return it
 
@@ -173,7 +174,7 @@ def test_a_disk_that_is_full_at_any_place(tmp_path: Path, small_disk) -> None:
     """The disk has room for a number of blocks; then it gets room, and the same line installs."""
     disk = small_disk(64_000_000)
     tmp_path.chmod(0o755)
-    trial = Trial(tmp_path, disk / "prefix", whole=False)
+    trial = Trial(tmp_path, disk / "prefix")
     trial.prefix.mkdir()
     wanted = whole(trial)
 
@@ -202,7 +203,7 @@ def test_a_disk_that_is_full_at_any_place(tmp_path: Path, small_disk) -> None:
 def test_an_upgrade_on_a_full_disk_leaves_what_is_installed(tmp_path: Path, small_disk) -> None:
     disk = small_disk(64_000_000)
     tmp_path.chmod(0o755)
-    trial = Trial(tmp_path, disk / "prefix", whole=False)
+    trial = Trial(tmp_path, disk / "prefix")
     assert trial.install().returncode == 0
     before = trial.tree()
     used = int(subprocess.run(["du", "-s", "-B4096", str(disk)], stdout=subprocess.PIPE, check=True).stdout.split()[0])

@@ -17,9 +17,9 @@ UPGRADES = pytest.mark.parametrize("upgrades", [False, True], ids=["first", "upg
 class Cuts:
     """An install, or an upgrade of one, and the trees that a cut may leave of it."""
 
-    def __init__(self, folder: Path, upgrades: bool) -> None:
+    def __init__(self, folder: Path, upgrades: bool, whole: bool) -> None:
         folder.chmod(0o755)
-        self.trial = Trial(folder, whole=False)
+        self.trial = Trial(folder, whole=whole)
         self.trial.prefix.mkdir()
         if upgrades:
             assert self.trial.install().returncode == 0
@@ -48,8 +48,9 @@ class Cuts:
 
 
 @pytest.fixture
-def cuts(tmp_path: Path, upgrades: bool) -> Cuts:
-    return Cuts(tmp_path, upgrades)
+def cuts(tmp_path: Path, upgrades: bool, request: pytest.FixtureRequest) -> Cuts:
+    """All files are installed beside the gate, and one of las-batch's in the gate, where the others are of its kind."""
+    return Cuts(tmp_path, upgrades, whole=request.node.get_closest_marker("huge") is not None)
 
 
 @UPGRADES
