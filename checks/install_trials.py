@@ -7,6 +7,7 @@ import subprocess
 from pathlib import Path
 from typing import Any, Optional
 
+import commands
 from programs import TOP
 
 # The commands by which `install` changes files. Each is counted, and one of them fails or is where the installer dies.
@@ -116,7 +117,8 @@ class Trial:
             environment["PATH"] = f"{self.tools}:{os.environ['PATH']}"
             self.count.write_text("0\n")
         return subprocess.run(words, env=environment, stdin=subprocess.DEVNULL, stdout=subprocess.PIPE,
-                              stderr=subprocess.PIPE, timeout=120, check=False, start_new_session=True)
+                              stderr=subprocess.PIPE, timeout=120, check=False, start_new_session=True,
+                              preexec_fn=commands.heed_signals)
 
     def install(self, *words: str, at: int = 0, how: str = "", **more: Any) -> "subprocess.CompletedProcess[bytes]":
         return self.run(str(self.folder / "install"), *words, str(self.prefix), at=at, how=how, **more)
