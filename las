@@ -23,9 +23,9 @@ top=${self%/*}
 help=$top/help
 [ -f "$top/crates.txt" ] || help=$top/../share/las/help
 
-# What has to stay as it is for `program` to be the right one: the sources, which `watched` names with their folders, the
-# release, the build, the program, and the C library of the machine. What changes a file, or the names in a folder, sets
-# its ctime, which nobody can set back. It is called in a subshell, which it replaces.
+# What has to stay as it is for `program` to be the right one: the sources, which `watched` names with their folders,
+# the release, the build, the program, and the C library of the machine. What changes a file, or the names in a folder,
+# sets its ctime, which nobody can set back. It is called in a subshell, which it replaces.
 listing() {
     set -f
     IFS='
@@ -36,8 +36,8 @@ listing() {
         /lib/ld-linux-aarch64.so.1 $watched 2>/dev/null
 }
 
-# Sets `program` as the stamp $1 names it, if that still holds. A stamp is words of the shell, which takes them in without
-# another process: `program`, `booted`, `watched` and `listed`.
+# Sets `program` as the stamp $1 names it, if that still holds. A stamp is words of the shell, which takes them in
+# without another process: `program`, `booted`, `watched` and `listed`.
 stamped() {
     program='' booted='' watched='' listed=''
     # shellcheck disable=SC1090
