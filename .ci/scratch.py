@@ -14,6 +14,8 @@ from typing import Dict, Iterator, List, NamedTuple, Sequence, Set, Tuple
 TOP = Path(__file__).resolve().parent.parent
 PARTS = ("src", "specs", "proofs")
 PREFIX = "balsamvise-"
+# what the lock of a folder of ours holds
+MARK = "a folder of .ci/edits or .ci/plant\n"
 
 
 class Crate(NamedTuple):
@@ -68,14 +70,20 @@ def sources_of(top: Path, crate: str) -> Dict[str, Path]:
 def scratch(name: str) -> Iterator[Path]:
     """A folder that is removed in the end, and held locked until then. What killed runs left is removed first."""
     for left in Path(tempfile.gettempdir()).glob(f"{PREFIX}*"):
-        with contextlib.suppress(OSError), (left / "lock").open() as held:
-            fcntl.flock(held, fcntl.LOCK_EX | fcntl.LOCK_NB)
-            shutil.rmtree(left, ignore_errors=True)
+        with contextlib.suppress(OSError):
+            if left.is_symlink() or left.stat().st_uid != os.geteuid():
+                continue
+            with (left / "lock").open(errors="replace") as held:
+                fcntl.flock(held, fcntl.LOCK_EX | fcntl.LOCK_NB)
+                if held.read(len(MARK) + 1) == MARK:
+                    shutil.rmtree(left, ignore_errors=True)
     while True:
         folder = Path(tempfile.mkdtemp(prefix=f"{PREFIX}{name}-"))
         try:
             with (folder / "lock").open("w") as lock:
                 fcntl.flock(lock, fcntl.LOCK_EX)
+                lock.write(MARK)
+                lock.flush()
                 # another run may have removed it before it was locked
                 if (folder / "lock").exists():
                     yield folder

@@ -256,12 +256,14 @@ def test_nothing_is_left_after_an_interrupt(tree: Path, number: signal.Signals) 
 
 
 def test_what_a_killed_run_left_is_removed_unless_it_is_held(tree: Path) -> None:
-    for name in ("balsamvise-killed", "balsamvise-held"):
+    mark = "a folder of .ci/edits or .ci/plant\n"
+    for name, held in (("balsamvise-killed", mark), ("balsamvise-held", mark), ("balsamvise-of-another", "")):
         (tree / "tmp" / name / "one-1").mkdir(parents=True)
-        (tree / "tmp" / name / "lock").write_text("")
+        (tree / "tmp" / name / "lock").write_text(held)
     with (tree / "tmp" / "balsamvise-held" / "lock").open() as lock:
         fcntl.flock(lock, fcntl.LOCK_EX)
         begun(tree, "answers").communicate(timeout=60)
-        assert [path.name for path in (tree / "tmp").iterdir()] == ["balsamvise-held"]
+        assert {path.name for path in (tree / "tmp").iterdir()} == {"balsamvise-held", "balsamvise-of-another"}
     begun(tree, "answers").communicate(timeout=60)
-    assert list((tree / "tmp").iterdir()) == []
+    assert [path.name for path in (tree / "tmp").iterdir()] == ["balsamvise-of-another"]
+    assert (tree / "tmp" / "balsamvise-of-another" / "one-1").is_dir()
