@@ -39,9 +39,12 @@ listing() {
 # Sets `program` as the stamp $1 names it, if that still holds. A stamp is words of the shell, which takes them in
 # without another process: `program`, `booted`, `watched` and `listed`.
 stamped() {
-    program='' booted='' watched='' listed=''
+    program='' booted='' watched='' listed='' first=''
+    # what an older launcher wrote under this name are no words of the shell
+    if [ -r "$1" ]; then read -r first <"$1"; fi
+    case $first in "program='"*"'") ;; *) return 1 ;; esac
     # shellcheck disable=SC1090
-    if [ -r "$1" ]; then command . "$1" 2>/dev/null; fi
+    command . "$1" 2>/dev/null
     [ -n "$program" ] && [ "$booted" = "$boot" ] && [ "$(listing)" = "$listed" ] || return 1
     case $program in /*) ;; *) program=$top/$program ;; esac
 }

@@ -200,6 +200,14 @@ def test_stamp_that_is_damaged_is_passed_over(checkout, damage):
     assert checkout.ran("laszip")[0] is None
 
 
+def test_stamp_of_an_older_launcher_is_not_run(checkout):
+    """Its first line was the path of the program, and the others what was listed."""
+    assert checkout.ran("laszip") == ("released", "")
+    checkout.path("release", "out", "stamp").write_text(": >ran\nboot\ncrates.txt f 1 2 3 4 5\n")
+    assert checkout.ran("laszip") == ("released", "")
+    assert not checkout.path("ran").exists()
+
+
 def test_build_says_how_far_it_is(checkout):
     changed_source(checkout)
     _, said = checkout.ran("laszip", environment=checkout.with_rt())
