@@ -3,7 +3,7 @@
 use Rattle.std.proofs.Common.{◌≡◌, ℕ, ◌+◌, ◌^◌, List, [], ◌∷◌, ◌++◌, replicate, codes, length, take, Option, Some, None, refl}
 use Rattle.std.specs.List.{splice}
 use Rattle.byteorder.specs.Endian.{little_bytes}
-use Rattle.las_header.specs.declared.limits.TheConstants.{COUNTS_AT, COUNTS_SIZE, HEADER_BLOCK, HEADER_BLOCK_1_3, HEADER_BLOCK_1_4, LAST_FORMAT, LAST_MINOR, LASZIP_DESCRIPTION, LASZIP_RECORD_ID, LASZIP_USER_ID, LONG_COUNTS_AT, LONG_COUNTS_SIZE, MAX_EXTRA, MAX_LASZIP_PAYLOAD, MAX_OFFSET, MAX_PLAIN_OFFSET, POINT_RECORD, VLR_HEAD}
+use Rattle.las_header.specs.declared.limits.TheConstants.{COUNTS_AT, COUNTS_SIZE, HEADER_BLOCK, HEADER_BLOCK_1_3, HEADER_BLOCK_1_4, LAST_FORMAT, LAST_MINOR, LASZIP_DESCRIPTION, LASZIP_RECORD_ID, LASZIP_USER_ID, LONG_COUNTS_AT, LONG_COUNTS_SIZE, MAX_CHUNK_POINTS, MAX_EXTRA, MAX_LASZIP_PAYLOAD, MAX_OFFSET, MAX_PLAIN_OFFSET, MIN_CHUNK_POINTS, POINT_RECORD, VLR_HEAD}
 use Rattle.las_header.specs.declared.refusal.Refusal.{Refusal}
 use Rattle.las_header.specs.declared.refusal.Refusal.TheVariants as cause
 use Rattle.las_header.specs.Numbers.{number_at, with_number_at}
@@ -215,11 +215,17 @@ long_counts_at_is = refl
 long_counts_size_is : LONG_COUNTS_SIZE ≡ 128
 long_counts_size_is = refl
 
+max_chunk_points_is : MAX_CHUNK_POINTS ≡ 250000
+max_chunk_points_is = refl
+
 max_laszip_payload_is : MAX_LASZIP_PAYLOAD ≡ 58
 max_laszip_payload_is = refl
 
 max_offset_is : MAX_OFFSET ≡ 16777216
 max_offset_is = refl
+
+min_chunk_points_is : MIN_CHUNK_POINTS ≡ 256
+min_chunk_points_is = refl
 
 point_record_is : POINT_RECORD ≡ 20
 point_record_is = refl

@@ -1,4 +1,5 @@
 pub mod Numbers
+pub mod Limits
 pub mod Fields
 pub mod Vlrs
 pub mod Plain

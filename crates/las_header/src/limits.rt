@@ -63,3 +63,9 @@ pub const LONG_COUNTS_AT: usize = 247;
 
 /// The length of the counts at [`LONG_COUNTS_AT`], in bytes.
 pub const LONG_COUNTS_SIZE: usize = 128;
+
+/// The fewest points of a chunk of a file that is written.
+pub const MIN_CHUNK_POINTS: u32 = 256;
+
+/// The most points of a chunk, of a file that is read or written.
+pub const MAX_CHUNK_POINTS: u32 = 250_000;

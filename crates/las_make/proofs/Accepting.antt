@@ -10,7 +10,7 @@ use Rattle.las_header.specs.Fields.{head_of, is_packed, point_offset_of, points_
 use Rattle.las_header.specs.Plain.{cut_records, plain_head}
 use Rattle.las_header.specs.Refusals.{causes_of, first_cause, front_causes, head_causes}
 use Rattle.las_header.proofs.Public.{first_is_tested}
-use Rattle.las_outside.specs.Limits.{IsChunkSize}
+use Rattle.las_header.specs.Limits.{IsChunkSize}
 use Rattle.las_points.specs.Tally.{counts_of}
 use Rattle.laz_table.specs.VlrCauses.{vlr_causes}
 use Rattle.laz_table.proofs.Public.{IsBytes-append}

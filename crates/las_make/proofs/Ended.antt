@@ -9,7 +9,7 @@ use Rattle.las_header.specs.Plain.{plain_head}
 use Rattle.las_outside.specs.Drafts.{IsPatchedInPart}
 use Rattle.las_outside.specs.Faults.{Rose}
 use Rattle.las_outside.specs.Files.{FileMap, IsMissing, WhereKnown, with_file}
-use Rattle.las_outside.specs.Limits.{IsChunkSize}
+use Rattle.las_header.specs.Limits.{IsChunkSize}
 use Rattle.las_outside.specs.Outside.{Outside, with_bytes, with_read_fault}
 use Rattle.las_outside.proofs.Public.{get-insert_same, is_known}
 use Rattle.laz_reader.specs.Asking.{AsksAtMost, asked_to_open}

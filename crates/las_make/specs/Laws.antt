@@ -1,6 +1,6 @@
 -- Laws of made files.
 use Rattle.std.specs.Prelude.{ℕ, List}
-use Rattle.las_outside.specs.Limits.{IsChunkSize}
+use Rattle.las_header.specs.Limits.{IsChunkSize}
 use Rattle.las_outside.specs.Outside.{Outside}
 use Rattle.laz_forms.specs.Laws.{CanBePacked}
 use Rattle.laz_forms.specs.Packing.{packed_file}

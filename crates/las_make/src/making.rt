@@ -2,7 +2,8 @@
 ghost use Rattle.std.specs.Prelude.{◌≡◌, ◌≢◌, IfErr, IfOk, IsErrOf, IsSome, OnOk, length};
 ghost use Rattle.las_header.specs.declared.refusal.Refusal.{Refusal};
 ghost use Rattle.las_outside.specs.Frames.{IsCalm};
-ghost use Rattle.las_outside.specs.Limits.{AreWorkers, IsChunkSize};
+ghost use Rattle.las_header.specs.Limits.{IsChunkSize};
+ghost use Rattle.las_outside.specs.Limits.{AreWorkers};
 ghost use Rattle.las_outside.specs.Outside.{Later};
 ghost use Rattle.laz_reader.specs.Asking.{AsksAtMost};
 ghost use Rattle.laz_forms.specs.Packing.{packed_file};

@@ -4,7 +4,3 @@ use Rattle.std.specs.Prelude.{ℕ, ◌≤◌}
 -- how many workers there may be
 abbrev pub AreWorkers : (workers : ℕ) → Type 0
 AreWorkers workers = (1 ≤ workers) × (workers ≤ 8)
-
--- how many points a chunk of a file that is written may have
-abbrev pub IsChunkSize : (points : ℕ) → Type 0
-IsChunkSize points = (256 ≤ points) × (points ≤ 250000)

@@ -1,7 +1,8 @@
 //! The command `lasmerge`: files that were written under one header become one file.
 ghost use Rattle.std.specs.Prelude.{◌≡◌, ◌≢◌, ◌≤◌, All, IfErr, List, OnOk, false, length, string_bytes, true};
 ghost use Rattle.las_outside.specs.Frames.{IsCalm};
-ghost use Rattle.las_outside.specs.Limits.{AreWorkers, IsChunkSize};
+ghost use Rattle.las_header.specs.Limits.{IsChunkSize};
+ghost use Rattle.las_outside.specs.Limits.{AreWorkers};
 ghost use Rattle.las_outside.specs.Outside.{Later};
 ghost use Rattle.las_outside.specs.Sinks.{SinkView};
 ghost use Rattle.las_words.specs.Asked.{lasmerge};

@@ -3,7 +3,8 @@ ghost use Rattle.std.specs.Prelude.{◌≡◌, ◌≢◌, ◌∷◌, [], ℕ, If
 ghost use Rattle.las_info.specs.Tallies.{TapSeen};
 ghost use Rattle.las_make.specs.Made.{IsInRange};
 ghost use Rattle.las_outside.specs.Frames.{IsCalm};
-ghost use Rattle.las_outside.specs.Limits.{AreWorkers, IsChunkSize};
+ghost use Rattle.las_header.specs.Limits.{IsChunkSize};
+ghost use Rattle.las_outside.specs.Limits.{AreWorkers};
 ghost use Rattle.las_outside.specs.Outside.{Later};
 ghost use Rattle.las_outside.specs.Sinks.{with_fault, with_more};
 ghost use Rattle.las_words.specs.Asked.{make};

@@ -6,7 +6,8 @@ use Rattle.std.specs.List.{list_any}
 use Rattle.std.specs.Str.{bytes_eq}
 use Rattle.std.proofs.lemmas.Bool.{or_parts, and_parts}
 use Rattle.las_filter.specs.Parts.{part_name}
-use Rattle.las_outside.specs.Limits.{AreWorkers, IsChunkSize}
+use Rattle.las_header.specs.Limits.{IsChunkSize}
+use Rattle.las_outside.specs.Limits.{AreWorkers}
 use Rattle.las_words.specs.declared.table.Tool.{Tool}
 use Rattle.las_words.specs.declared.table.Tool.TheVariants.{Laszip, Las2las, Lasinfo, Lassplit, Lasmerge, Make}
 use Rattle.las_words.specs.declared.pieces.Piece.{Piece}

@@ -6,7 +6,8 @@ use Rattle.las_filter.specs.Changes.{HasClass}
 use Rattle.las_filter.specs.Kept.{Steps, steps_of}
 use Rattle.las_filter.specs.Parts.{IsRule, part_name}
 use Rattle.las_filter.specs.declared.rule.Rule.{Rule}
-use Rattle.las_outside.specs.Limits.{AreWorkers, IsChunkSize}
+use Rattle.las_header.specs.Limits.{IsChunkSize}
+use Rattle.las_outside.specs.Limits.{AreWorkers}
 use Rattle.las_thin.specs.Sieving.{HasItsStep, IsStep, Settings}
 use Rattle.las_words.specs.declared.command.Command.{Command}
 use Rattle.las_words.specs.declared.command.Command.TheVariants as command

@@ -2,6 +2,7 @@
 use Rattle.std.specs.Prelude.{ℕ, ℤ, pos, ◌^◌, bit_or, List, [], ◌∷◌, ◌++◌, codes, fold, find, take, Option}
 use Rattle.std.specs.Prelude.{unwrap_or}
 use Rattle.std.specs.Str.{bytes_eq}
+use Rattle.las_header.specs.declared.limits.TheConstants.{MAX_CHUNK_POINTS, MIN_CHUNK_POINTS}
 use Rattle.las_filter.specs.declared.keep.Keep.{Keep}
 use Rattle.las_filter.specs.declared.keep.Keep.TheVariants.{Classes, DropClasses, Returns, DropReturns, First, Last}
 use Rattle.las_filter.specs.declared.keep.Keep.TheVariants.{Intensity, NotBelow, NotAbove}
@@ -90,7 +91,7 @@ row_of Input = once (codes "-i") Name Setting
 row_of Inputs =
     record { name = codes "-i"; values = Name; rivals = codes "-i" ∷ []; before = 31; means = Setting }
 row_of Output = once (codes "-o") Name Setting
-row_of ChunkSize = one_of (codes "-chunk_size" ∷ copying) (codes "-chunk_size") (Number 256 250000)
+row_of ChunkSize = one_of (codes "-chunk_size" ∷ copying) (codes "-chunk_size") (Number MIN_CHUNK_POINTS MAX_CHUNK_POINTS)
 row_of Cores = once (codes "-cores") (Number 1 8) Setting
 row_of Olas = one_of (forms ++ copying) (codes "-olas") Nothing
 row_of Olaz = one_of forms (codes "-olaz") Nothing

@@ -4,6 +4,8 @@ ghost use Rattle.std.specs.Prelude.{◌≡◌, map};
 ghost use Rattle.std.specs.List.{list_any};
 ghost use Rattle.std.specs.Str.{bytes_eq};
 
+use las_header::{MAX_CHUNK_POINTS, MIN_CHUNK_POINTS};
+
 /// A command.
 #[derive(Clone, Copy)]
 pub enum Tool {
@@ -252,7 +254,7 @@ impl Flag {
     {
         match self {
             Flag::Input | Flag::Inputs | Flag::Output | Flag::PackedOutput => Values::Name,
-            Flag::ChunkSize => Values::Number(256, 250_000),
+            Flag::ChunkSize => Values::Number(MIN_CHUNK_POINTS, MAX_CHUNK_POINTS),
             Flag::Cores => Values::Number(1, 8),
             Flag::Olas | Flag::Olaz | Flag::CopyChunks => Values::Nothing,
             Flag::KeepFirst | Flag::KeepLast => Values::Nothing,

@@ -4,7 +4,7 @@ use Rattle.std.proofs.lemmas.List.{drop-drop, drop_at, length-take-le, take_at}
 use Rattle.std.proofs.Math.Seq.{take-add}
 use Rattle.std.specs.List.{AllByRecursion, concat}
 use Rattle.las_header.specs.Fields.{head_of, is_packed}
-use Rattle.laz_table.specs.Chunks.{IsChunkSize}
+use Rattle.laz_table.specs.Chunks.{IsCountedSize}
 use Rattle.laz_table.specs.Laws.{AreWords}
 use Rattle.laz_chunk.specs.Chunks.{AreRecords, Holds}
 use Rattle.laz_chunk.specs.Layouts.{Layout, record_length}
@@ -97,7 +97,7 @@ sizes_listed file at (n ∷ counts) (s ∷ sizes) e lie =
 -- ---- what is known of chunks, one after another
 pub record AreGoodChunks (chunks : List Chunk) : Type 0 where
   pub words : AreWords (map length (byte_lists_in chunks))
-  pub range : AllByRecursion IsChunkSize (chunk_counts chunks)
+  pub range : AllByRecursion IsCountedSize (chunk_counts chunks)
 
 pub no_chunks : AreGoodChunks []
 no_chunks = record { words = tt; range = tt }
@@ -106,7 +106,7 @@ words-append : (xs ys : List Chunk) → AreWords (map length (byte_lists_in xs))
 words-append [] ys h k = k
 words-append (x ∷ xs) ys h k = (h.0, words-append xs ys h.1 k)
 
-range-append : (xs ys : List Chunk) → AllByRecursion IsChunkSize (chunk_counts xs) → AllByRecursion IsChunkSize (chunk_counts ys) → AllByRecursion IsChunkSize (chunk_counts (xs ++ ys))
+range-append : (xs ys : List Chunk) → AllByRecursion IsCountedSize (chunk_counts xs) → AllByRecursion IsCountedSize (chunk_counts ys) → AllByRecursion IsCountedSize (chunk_counts (xs ++ ys))
 range-append [] ys h k = k
 range-append (x ∷ xs) ys h k = (h.0, range-append xs ys h.1 k)
 

@@ -5,7 +5,7 @@ use Rattle.std.specs.List.{AllByRecursion}
 use Rattle.las_header.specs.Fields.{format_of, format_size, head_of, is_packed, points_of, record_length_of}
 use Rattle.laz_table.specs.declared.chunks.Blocks.{Blocks}
 use Rattle.laz_table.specs.declared.chunks.Blocks.TheVariants.{Fixed, Counted}
-use Rattle.laz_table.specs.Chunks.{IsAccepted, IsChunkSize}
+use Rattle.laz_table.specs.Chunks.{IsAccepted, IsCountedSize}
 use Rattle.laz_table.specs.Table.{table_bytes}
 use Rattle.laz_table.specs.VlrCauses.{chunk_size_of, extra_of, is_counted}
 use Rattle.laz_chunk.specs.Layouts.{Layout, layout_of}
@@ -36,7 +36,7 @@ good_if true file p pieces e are =
     let sizes = sizes_listed file at are.0 are.1 l.same l.lie in
     subst (λ (ps : List Piece). HasGoodChunks file (map (chunk_at file) ps)) (sym are.3)
     (record {
-      good = record { words = subst (λ (ns : List ℕ). AllByRecursion (λ n. n < 4294967296) ns) (sym sizes) l.words; range = subst (λ (ns : List ℕ). AllByRecursion IsChunkSize ns) (sym counts) l.range };
+      good = record { words = subst (λ (ns : List ℕ). AllByRecursion (λ n. n < 4294967296) ns) (sym sizes) l.words; range = subst (λ (ns : List ℕ). AllByRecursion IsCountedSize ns) (sym counts) l.range };
       points = ap sum counts ∙ l.points;
     })
 

@@ -16,7 +16,7 @@ use Rattle.laz_range.specs.Span.{IsBytes}
 use Rattle.laz_range.proofs.Public.{IsBytes-take}
 use Rattle.laz_table.specs.declared.chunks.Blocks.{Blocks}
 use Rattle.laz_table.specs.declared.chunks.Blocks.TheVariants.{Fixed, Counted}
-use Rattle.laz_table.specs.Chunks.{HasChunkSize, IsAccepted, IsChunkSize}
+use Rattle.laz_table.specs.Chunks.{HasChunkSize, IsAccepted, IsCountedSize}
 use Rattle.laz_table.specs.Laws.{AreWords}
 use Rattle.laz_table.specs.VlrCauses.{chunk_count, chunk_size_of, extra_of, is_bad_chunk_size, is_counted, lacks_vlr, makes_many_chunks, payload_causes, payload_of, vlr_causes}
 use Rattle.laz_forms.specs.Pieces.{ArePieces, ArePiecesIf, Piece}
@@ -130,7 +130,7 @@ points_by false chunk points = refl
 pub record IsListed (file : List ℕ) (counts sizes : List ℕ) : Type 0 where
   pub same : length counts ≡ length sizes
   pub words : AreWords sizes
-  pub range : AllByRecursion IsChunkSize counts
+  pub range : AllByRecursion IsCountedSize counts
   pub points : sum counts ≡ points_of (head_of file)
   pub lie : chunks_place file + sum sizes ≤ length file
 

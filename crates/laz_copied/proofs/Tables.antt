@@ -10,7 +10,7 @@ use Rattle.laz_range.specs.Span.{IsBytes}
 use Rattle.laz_integer.specs.Events.{Event}
 use Rattle.laz_table.specs.declared.chunks.Blocks.{Blocks}
 use Rattle.laz_table.specs.declared.chunks.Blocks.TheVariants.{Fixed, Counted}
-use Rattle.laz_table.specs.Chunks.{AreSizes, BeginsTable, HasTable, IsAccepted, IsChunkSize, table_causes}
+use Rattle.laz_table.specs.Chunks.{AreSizes, BeginsTable, HasTable, IsAccepted, IsCountedSize, table_causes}
 use Rattle.laz_table.specs.Entries.{Entry, Latest, SpellsEntries, after_entry, entries_of, no_entry}
 use Rattle.laz_table.specs.Laws.{AreWords}
 use Rattle.laz_table.specs.Table.{HoldsEntries, TableHolds, stream_of, table_bytes}
@@ -31,17 +31,17 @@ counted-bytes sizes counts same h k =
 
 -- ---- numbers of points in range
 
-pub sizes-words : (sizes : List ℕ) → AllByRecursion IsChunkSize sizes → AreWords sizes
+pub sizes-words : (sizes : List ℕ) → AllByRecursion IsCountedSize sizes → AreWords sizes
 sizes-words [] h = tt
 sizes-words (s ∷ sizes) h = (omega (arith, h.0.1), sizes-words sizes h.1)
 
 -- there are no more chunks than points
-pub few-sizes : (sizes : List ℕ) → AllByRecursion IsChunkSize sizes → length sizes ≤ sum sizes
+pub few-sizes : (sizes : List ℕ) → AllByRecursion IsCountedSize sizes → length sizes ≤ sum sizes
 few-sizes [] h = omega arith
 few-sizes (s ∷ sizes) h = omega (arith, h.0.0, few-sizes sizes h.1, sum-cons s sizes)
 
 -- ---- the table of counted chunks
-module _ (points : ℕ) (sizes counts : List ℕ) (same : length sizes ≡ length counts) (few : length counts ≤ 16777216) (words : AreWords counts) (range : AllByRecursion IsChunkSize sizes) (whole : sum sizes ≡ points) where
+module _ (points : ℕ) (sizes counts : List ℕ) (same : length sizes ≡ length counts) (few : length counts ≤ 16777216) (words : AreWords counts) (range : AllByRecursion IsCountedSize sizes) (whole : sum sizes ≡ points) where
   table : List ℕ
   table = table_bytes sizes counts
 
@@ -60,7 +60,7 @@ module _ (points : ℕ) (sizes counts : List ℕ) (same : length sizes ≡ lengt
       (sym one.0, sym one.1)
 
   are : AreSizes points sizes
-  are = (All-from_recursion IsChunkSize sizes range, whole)
+  are = (All-from_recursion IsCountedSize sizes range, whole)
 
   has : HasTable table (Counted points) sizes counts
   has = record { begins = begins; only = only }
@@ -112,7 +112,7 @@ table_words bytes n false sizes counts h =
     fixed-words counts (subst (λ (ss : List ℕ). AreEntries (entries_of ss counts)) (no-sizes sizes h.point_counts) (held-words _ (entries_of sizes counts) h.coded))
 
 -- ---- the numbers of points of an accepted table are in range
-in_range? : (n : ℕ) → IsChunkSize n ⊎ (IsChunkSize n → ⊥)
+in_range? : (n : ℕ) → IsCountedSize n ⊎ (IsCountedSize n → ⊥)
 in_range? n = elim (cases_lt 0 n) [
   | inl some ↦ elim (cases_lt 250000 n) [
     | inl many ↦ inr (λ h. absurd (omega (arith, many, h.1)))
@@ -121,7 +121,7 @@ in_range? n = elim (cases_lt 0 n) [
   | inr none ↦ inr (λ h. absurd (omega (arith, none, h.0)))
 ]
 
-all_in_range? : (ns : List ℕ) → AllByRecursion IsChunkSize ns ⊎ (AllByRecursion IsChunkSize ns → ⊥)
+all_in_range? : (ns : List ℕ) → AllByRecursion IsCountedSize ns ⊎ (AllByRecursion IsCountedSize ns → ⊥)
 all_in_range? [] = inl tt
 all_in_range? (n ∷ ns) = elim (in_range? n) [
   | inl one ↦ elim (all_in_range? ns) [
@@ -133,7 +133,7 @@ all_in_range? (n ∷ ns) = elim (in_range? n) [
 
 -- those of fixed chunks
 fixed-range : (chunk points k n : ℕ) → 0 < chunk → min chunk points ≤ 250000 → chunk * (k + n) < points + chunk
-    → AllByRecursion IsChunkSize (map (λ i. min chunk (points - chunk * i)) (range_with_len k n))
+    → AllByRecursion IsCountedSize (map (λ i. min chunk (points - chunk * i)) (range_with_len k n))
 fixed-range chunk points k zero some few within = tt
 fixed-range chunk points k (suc n) some few within =
     let more : chunk * k + chunk * n < points = omega (arith, within) in
@@ -147,11 +147,11 @@ abbrev pub IsChunkSizeOf : Blocks → Type 0
 IsChunkSizeOf (Fixed chunk points) = (0 < chunk) × (min chunk points ≤ 250000)
 IsChunkSizeOf (Counted points) = Unit {0}
 
-pub accepted_range : (bytes : List ℕ) (blocks : Blocks) (total : ℕ) (sizes counts : List ℕ) → IsChunkSizeOf blocks → IsAccepted bytes blocks total sizes counts → AllByRecursion IsChunkSize sizes
+pub accepted_range : (bytes : List ℕ) (blocks : Blocks) (total : ℕ) (sizes counts : List ℕ) → IsChunkSizeOf blocks → IsAccepted bytes blocks total sizes counts → AllByRecursion IsCountedSize sizes
 accepted_range bytes (Fixed chunk points) total sizes counts some a =
-    subst (AllByRecursion IsChunkSize) (sym a.sizes_are)
+    subst (AllByRecursion IsCountedSize) (sym a.sizes_are)
     (fixed-range chunk points 0 (chunk_count points chunk) some.0 some.1 (omega (arith, count-few points chunk (omega (arith, some.0)))))
 accepted_range bytes (Counted points) total sizes counts some a = elim (all_in_range? a.coded) [
-  | inl all ↦ subst (AllByRecursion IsChunkSize) (sym a.sizes_are) all
-  | inr none ↦ absurd (points_summed bytes (Counted points) total a.fine (a.coded, counts, a.table, λ are. none (recursion_from_All IsChunkSize a.coded are.0)))
+  | inl all ↦ subst (AllByRecursion IsCountedSize) (sym a.sizes_are) all
+  | inr none ↦ absurd (points_summed bytes (Counted points) total a.fine (a.coded, counts, a.table, λ are. none (recursion_from_All IsCountedSize a.coded are.0)))
 ]

@@ -12,7 +12,7 @@ use Rattle.las_header.specs.Refusals.{causes_of, counted_size, ends_early, first
 use Rattle.las_header.specs.Vlrs.{laszip_vlrs_of, vlrs_end}
 use Rattle.las_header.proofs.Public.{front_decides, front_is_fine, IsFirst-append_none, IsFirst-tests, number_at-take}
 use Rattle.las_header.proofs.Public.{no_extended, first_none}
-use Rattle.las_outside.specs.Limits.{IsChunkSize}
+use Rattle.las_header.specs.Limits.{IsChunkSize}
 use Rattle.laz_table.specs.VlrCauses.{vlr_causes}
 use Rattle.laz_table.proofs.Public.{IsBytes-append}
 use Rattle.laz_forms.specs.Laws.{AreHeadAndRecords, CanBePacked, IsAcceptedPack, IsAcceptedPlain}

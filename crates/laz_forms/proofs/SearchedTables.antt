@@ -9,8 +9,9 @@ use Rattle.laz_integer.specs.Events.{Event, cuts_of}
 use Rattle.laz_integer.specs.Integer.{IntSpell}
 use Rattle.laz_table.specs.declared.chunks.Blocks.{Blocks}
 use Rattle.laz_table.specs.declared.chunks.Blocks.TheVariants.{Fixed, Counted}
-use Rattle.laz_table.specs.declared.limits.TheConstants.{MAX_CHUNKS, MAX_CHUNK_POINTS, TABLE_START}
-use Rattle.laz_table.specs.Chunks.{AreSizes, BeginsTable, HasOtherBytes, HasOtherPoints, HasTable, IsChunkCount, IsChunkSize, LacksTable, are_counted}
+use Rattle.las_header.specs.declared.limits.TheConstants.{MAX_CHUNK_POINTS}
+use Rattle.laz_table.specs.declared.limits.TheConstants.{MAX_CHUNKS, TABLE_START}
+use Rattle.laz_table.specs.Chunks.{AreSizes, BeginsTable, HasOtherBytes, HasOtherPoints, HasTable, IsChunkCount, IsCountedSize, LacksTable, are_counted}
 use Rattle.laz_table.specs.Entries.{Entry, Latest, SpellsEntries, SpellsEntry, after_entry, bytes_entry, context_of, entries_of, no_entry, prediction, signed, table_use}
 use Rattle.laz_table.specs.Table.{HoldsEntries}
 use Rattle.laz_table.specs.VlrCauses.{chunk_count}
@@ -188,11 +189,11 @@ module _ (bytes : List ℕ) (blocks : Blocks) where
       (λ h. (h.0.0, h.0.1, h.1, h.2)) (λ h. ((h.0, h.1), h.2, h.3))
       (searched_table (λ x. sum x.1 ≢ total) (λ x is. decided_not (same_number (sum x.1) total)))
 
-all_sizes : (sizes : List ℕ) → Decided (All IsChunkSize sizes)
-all_sizes [] = inl (All-nil IsChunkSize)
+all_sizes : (sizes : List ℕ) → Decided (All IsCountedSize sizes)
+all_sizes [] = inl (All-nil IsCountedSize)
 all_sizes (s ∷ sizes) =
-    decided_if {A = IsChunkSize s × All IsChunkSize sizes} {B = All IsChunkSize (s ∷ sizes)}
-    (λ h. All-cons IsChunkSize s sizes h.0 h.1)
+    decided_if {A = IsCountedSize s × All IsCountedSize sizes} {B = All IsCountedSize (s ∷ sizes)}
+    (λ h. All-cons IsCountedSize s sizes h.0 h.1)
     (λ h. (h 0 0 (omega arith), λ k d lt. h (suc k) d (omega (arith, lt))))
     (decided_both (decided_both (is_below 0 s) (λ _. is_at_most s MAX_CHUNK_POINTS)) (λ _. all_sizes sizes))
 

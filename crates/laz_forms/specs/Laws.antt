@@ -9,7 +9,7 @@ use Rattle.las_header.specs.Fields.{head_of, is_packed, point_offset_of, points_
 use Rattle.las_header.specs.Heads.{IsHead}
 use Rattle.las_header.specs.Plain.{plain_head}
 use Rattle.las_header.specs.Vlrs.{laszip_vlrs_of}
-use Rattle.las_outside.specs.Limits.{IsChunkSize}
+use Rattle.las_header.specs.Limits.{IsChunkSize}
 use Rattle.las_points.specs.Tally.{counted_file, counts_of}
 use Rattle.laz_range.specs.Span.{IsBytes}
 use Rattle.laz_table.specs.Chunks.{fixed_sizes}

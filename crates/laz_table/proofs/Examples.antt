@@ -1,6 +1,6 @@
 -- Worked values of the definitions: entries, tables, chunks, payloads, and what a laszip VLR is refused for.
 use Rattle.std.proofs.Common.{◌≡◌, ℕ, pos, negsuc, true, false, List, [], ◌∷◌, ◌++◌, Some, None, refl, replicate}
-use Rattle.laz_table.specs.declared.limits.TheConstants.{ARITHMETIC_CODER, CHUNKED_COMPRESSOR, COUNTED_CHUNKS, ITEM_VERSION, MAX_CHUNKS, MAX_CHUNK_BYTES, MAX_CHUNK_POINTS, MIN_TABLE_BYTES, PAYLOAD_ITEM, PAYLOAD_START, TABLE_CONTEXTS, TABLE_START}
+use Rattle.laz_table.specs.declared.limits.TheConstants.{ARITHMETIC_CODER, CHUNKED_COMPRESSOR, COUNTED_CHUNKS, ITEM_VERSION, MAX_CHUNKS, MAX_CHUNK_BYTES, MIN_TABLE_BYTES, PAYLOAD_ITEM, PAYLOAD_START, TABLE_CONTEXTS, TABLE_START}
 use Rattle.std.proofs.Common.{codes, subst, sym, arith, rules}
 use Rattle.std.specs.List.{splice}
 use Rattle.byteorder.specs.Endian.{little_bytes}
@@ -288,9 +288,6 @@ max_chunks_is = refl
 
 max_chunk_bytes_is : MAX_CHUNK_BYTES ≡ 24
 max_chunk_bytes_is = refl
-
-max_chunk_points_is : MAX_CHUNK_POINTS ≡ 250000
-max_chunk_points_is = refl
 
 min_table_bytes_is : MIN_TABLE_BYTES ≡ 12
 min_table_bytes_is = refl

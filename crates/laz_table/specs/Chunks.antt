@@ -4,7 +4,8 @@ use Rattle.std.specs.Prelude.{false, Some, None, List, [], ◌∷◌, length}
 use Rattle.std.specs.List.{range_with_len}
 use Rattle.las_header.specs.declared.refusal.Refusal.TheVariants as cause
 use Rattle.las_header.specs.Conditions.{Condition, IsFirst}
-use Rattle.laz_table.specs.declared.limits.TheConstants.{MAX_CHUNKS, MAX_CHUNK_POINTS}
+use Rattle.las_header.specs.declared.limits.TheConstants.{MAX_CHUNK_POINTS}
+use Rattle.laz_table.specs.declared.limits.TheConstants.{MAX_CHUNKS}
 use Rattle.laz_table.specs.declared.chunks.Blocks.{Blocks}
 use Rattle.laz_table.specs.declared.chunks.Blocks.TheVariants.{Fixed, Counted}
 use Rattle.laz_table.specs.declared.chunks.TableFault.{TableFault}
@@ -42,12 +43,12 @@ HasOtherBytes bytes blocks total =
     (sizes : List ℕ) × (counts : List ℕ) × HasTable bytes blocks sizes counts × (sum counts ≢ total)
 
 -- a chunk has points, and not too many
-abbrev pub IsChunkSize : ℕ → Type 0
-IsChunkSize size = (0 < size) × (size ≤ MAX_CHUNK_POINTS)
+abbrev pub IsCountedSize : ℕ → Type 0
+IsCountedSize size = (0 < size) × (size ≤ MAX_CHUNK_POINTS)
 
 -- the chunks' own numbers of points are in range and add up
 abbrev pub AreSizes : (points : ℕ) → (sizes : List ℕ) → Type 0
-AreSizes points sizes = All IsChunkSize sizes × (sum sizes ≡ points)
+AreSizes points sizes = All IsCountedSize sizes × (sum sizes ≡ points)
 
 abbrev pub AllowsSizes : Blocks → (sizes : List ℕ) → Type 0
 AllowsSizes (Fixed chunk points) sizes = Unit {0}

@@ -9,8 +9,9 @@ use Rattle.las_header.specs.declared.vlrs.VlrPlace.{VlrPlace}
 use Rattle.las_header.specs.Numbers.{number_at}
 use Rattle.las_header.specs.Fields.{format_of, format_size, record_length_of, points_of}
 use Rattle.las_header.specs.Vlrs.{laszip_vlrs_of}
+use Rattle.las_header.specs.declared.limits.TheConstants.{MAX_CHUNK_POINTS}
 use Rattle.laz_table.specs.declared.limits.TheConstants.{ARITHMETIC_CODER, CHUNKED_COMPRESSOR, COUNTED_CHUNKS}
-use Rattle.laz_table.specs.declared.limits.TheConstants.{MAX_CHUNKS, MAX_CHUNK_POINTS, PAYLOAD_ITEM, PAYLOAD_START}
+use Rattle.laz_table.specs.declared.limits.TheConstants.{MAX_CHUNKS, PAYLOAD_ITEM, PAYLOAD_START}
 use Rattle.laz_table.specs.Payload.{items_of, items_part}
 
 -- the payload of a VLR

@@ -18,8 +18,7 @@ pub use chunks::{Blocks, ChunkList, TableFault};
 pub use laws::{tables_are_short, tables_hold_one_pair, tables_hold_their_lists};
 pub use limits::{
     ARITHMETIC_CODER, CHUNKED_COMPRESSOR, COUNTED_CHUNKS, ITEM_VERSION, MAX_CHUNK_BYTES,
-    MAX_CHUNK_POINTS, MAX_CHUNKS, MIN_TABLE_BYTES, PAYLOAD_ITEM, PAYLOAD_START, TABLE_CONTEXTS,
-    TABLE_START,
+    MAX_CHUNKS, MIN_TABLE_BYTES, PAYLOAD_ITEM, PAYLOAD_START, TABLE_CONTEXTS, TABLE_START,
 };
 pub use table::read_table;
 pub use vlr::{chunk_count, read_vlr, vlr_of};

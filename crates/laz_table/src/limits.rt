@@ -21,9 +21,6 @@ pub const COUNTED_CHUNKS: u32 = 4_294_967_295;
 /// The most chunks of a file: 2^24.
 pub const MAX_CHUNKS: u32 = 16_777_216;
 
-/// The most points of a chunk that is read.
-pub const MAX_CHUNK_POINTS: u32 = 250_000;
-
 /// The length of a chunk table before its stream, in bytes: its version and the number of chunks.
 pub const TABLE_START: usize = 8;
 

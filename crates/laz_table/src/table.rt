@@ -2,16 +2,16 @@
 
 ghost use Rattle.std.specs.Prelude.{◌≡◌, ◌<◌, ◌^◌, ◌↔◌, ℕ, length, sum, All, IfErr, IfNone, IfOk, IfSome, IsTrue};
 ghost use Rattle.std.specs.Prelude.{MatchResult};
-ghost use Rattle.laz_table.specs.Chunks.{AllowsSizes, AreSizes, HasChunkSize, IsAccepted, IsChunkCount, IsChunkSize};
+ghost use Rattle.laz_table.specs.Chunks.{AllowsSizes, AreSizes, HasChunkSize, IsAccepted, IsChunkCount, IsCountedSize};
 ghost use Rattle.laz_table.specs.Chunks.{IsFirstFault, fixed_sizes, sizes_of};
 ghost use Rattle.laz_table.specs.declared.chunks.TableFault.TheVariants.{Memory};
 ghost use Rattle.laz_table.specs.Steps.{IsFault, IsTableStart, NoTable, OneTable};
 
 use crate::chunks::{Blocks, ChunkList, TableFault};
-use crate::limits::{MAX_CHUNK_POINTS, MAX_CHUNKS, TABLE_CONTEXTS, TABLE_START};
+use crate::limits::{MAX_CHUNKS, TABLE_CONTEXTS, TABLE_START};
 use crate::reading::{take_chunks, take_counts};
 use crate::vlr::chunk_count;
-use las_header::u32_at;
+use las_header::{MAX_CHUNK_POINTS, u32_at};
 use laz_integer::{IntModel, MAX_BITS};
 use laz_range::Decoder;
 use std::alloc::Global;
@@ -134,7 +134,7 @@ fn are_sizes(sizes: &[u32], points: u32) -> bool
 
 // Whether numbers of points are in range.
 fn are_in_range(sizes: &[u32]) -> bool
-    ensures { IsTrue result ↔ All IsChunkSize sizes.now }
+    ensures { IsTrue result ↔ All IsCountedSize sizes.now }
 {
     sizes
         .iter()

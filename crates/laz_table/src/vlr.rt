@@ -12,13 +12,14 @@ ghost use Rattle.laz_table.specs.VlrCauses.{has_other_compressor, has_other_item
 ghost use Rattle.laz_table.specs.VlrCauses.{makes_many_chunks};
 
 use crate::limits::{
-    ARITHMETIC_CODER, CHUNKED_COMPRESSOR, COUNTED_CHUNKS, ITEM_VERSION, MAX_CHUNK_POINTS,
-    MAX_CHUNKS, PAYLOAD_ITEM, PAYLOAD_START,
+    ARITHMETIC_CODER, CHUNKED_COMPRESSOR, COUNTED_CHUNKS, ITEM_VERSION, MAX_CHUNKS, PAYLOAD_ITEM,
+    PAYLOAD_START,
 };
 use arrayvec::ArrayVec;
 use byteorder::{ByteOrder, LittleEndian};
 use las_header::{
-    Head, LAST_FORMAT, MAX_EXTRA, MAX_LASZIP_PAYLOAD, Refusal, VLR_HEAD, VlrPlace, u16_at, u32_at,
+    Head, LAST_FORMAT, MAX_CHUNK_POINTS, MAX_EXTRA, MAX_LASZIP_PAYLOAD, Refusal, VLR_HEAD,
+    VlrPlace, u16_at, u32_at,
 };
 
 /// The payload of the laszip VLR of a file with point data of this format, 0 to 3, with `extra` bytes more a record,

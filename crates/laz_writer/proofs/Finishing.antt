@@ -14,7 +14,7 @@ use Rattle.las_header.specs.Counting.{counts_bytes, long_counts_bytes, with_coun
 use Rattle.las_header.specs.Fields.{format_of, has_long_counts}
 use Rattle.las_header.specs.Heads.{IsHead}
 use Rattle.las_outside.specs.Drafts.{Patch}
-use Rattle.las_outside.specs.Limits.{IsChunkSize}
+use Rattle.las_header.specs.Limits.{IsChunkSize}
 use Rattle.las_points.specs.Tally.{counts_of}
 use Rattle.laz_chunk.specs.Layouts.{Format}
 use Rattle.laz_table.specs.Payload.{laszip_payload}

@@ -12,7 +12,8 @@ use Rattle.las_header.specs.Fields.{has_long_counts, record_length_of}
 use Rattle.las_header.specs.Heads.{IsHead}
 use Rattle.las_header.specs.Plain.{cut_records}
 use Rattle.las_outside.specs.Drafts.{IsUnfinished, Patch, IsPatchedInPart, with_patches}
-use Rattle.las_outside.specs.Limits.{AreWorkers, IsChunkSize}
+use Rattle.las_header.specs.Limits.{IsChunkSize}
+use Rattle.las_outside.specs.Limits.{AreWorkers}
 use Rattle.las_outside.specs.Outside.{Outside, with_bytes, with_write_fault}
 use Rattle.las_points.specs.Tally.{IsWithinPoints, counts_of}
 use Rattle.laz_chunk.specs.Chunks.{chunk_bytes, count_of}
