@@ -1,6 +1,7 @@
 """A folder for temporary files in which crates are checked over the libraries that `rt ci` left in a tree."""
 import contextlib
 import fcntl
+import hashlib
 import os
 import shutil
 import signal
@@ -140,6 +141,18 @@ class Lab:
         self.stopping = False
         self.alone = threading.Lock()
         self.number = 0
+        self.sums: Dict[Tuple[str, str], str] = {}
+
+    def sum_of(self, crate: str, judge: str) -> str:
+        """A sum of the sources of a crate and of those below it, of the kit, and of how results are judged."""
+        if (crate, judge) not in self.sums:
+            made = hashlib.sha256((self.kit / "KIT-ID").read_bytes() + judge.encode())
+            for name in (*below(self.crates, crate), crate):
+                made.update(repr(self.crates[name]).encode())
+                for place, path in sorted(sources_of(TOP, name).items(), key=lambda it: it[1]):
+                    made.update(repr((place, path.read_bytes())).encode())
+            self.sums[crate, judge] = made.hexdigest()
+        return self.sums[crate, judge]
 
     def run(self, words: Sequence[str], cwd: Path) -> "Tuple[int, str, float]":
         """Runs rattle, and returns its status, what it said, and the processor seconds."""
@@ -181,11 +194,18 @@ class Lab:
     def rlib(self, name: str) -> Path:
         return self.folder / "crates" / name / "out" / "rlib" / f"{name}.rlib"
 
+    @staticmethod
+    def is_program(name: str) -> bool:
+        return (TOP / "crates" / name / "src" / "main.rt").is_file()
+
+    def makes_library(self, name: str) -> bool:
+        """Whether other crates can stand on a crate."""
+        return not self.crates[name].is_static and not self.is_program(name)
+
     def words(self, name: str) -> List[str]:
         """The words for a check of a crate, as rt gives them."""
         crate, rlibs = self.crates[name], self.kit / "rlibs"
-        is_program = (TOP / "crates" / name / "src" / "main.rt").is_file()
-        words = ["--crate-name", name, "src/main.rt" if is_program else "src/lib.rt"]
+        words = ["--crate-name", name, "src/main.rt" if self.is_program(name) else "src/lib.rt"]
         for it in ("std", *[it for it in crate.direct if it not in self.crates]):
             words += ["--extern", f"{it}={rlibs / it}.rlib"]
         words += ["-L", f"dependency={rlibs}"]
