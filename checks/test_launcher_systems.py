@@ -14,6 +14,7 @@ import needs
 import systems
 from checkouts import TELLER, Checkout
 from programs import TOP
+from test_packages import made_by
 
 V2 = "fpu lm cx16 lahf_lm popcnt sse4_1 sse4_2 ssse3"
 V3 = V2 + " avx avx2 bmi1 bmi2 f16c fma abm movbe xsave"
@@ -38,6 +39,14 @@ MACHINES = {
 }
 
 
+def called(folder, name):
+    """A folder for PATH, in which `uname` prints this name of the machine."""
+    folder.mkdir()
+    (folder / "uname").write_text(f"#!/bin/sh\necho {name}\n")
+    (folder / "uname").chmod(0o755)
+    return folder
+
+
 class Machine:
     """Runs a command as on another machine: with its /proc/cpuinfo and its answer to `uname -m`."""
 
@@ -49,10 +58,7 @@ class Machine:
         self.cpuinfo = folder / "cpuinfo"
         lines = "Features\t: fp asimd\n" if flags is None else f"flags\t\t: {flags}\n" if flags else ""
         self.cpuinfo.write_text(f"processor\t: 0\n{lines}")
-        self.uname = folder / "bin"
-        self.uname.mkdir()
-        (self.uname / "uname").write_text(f"#!/bin/sh\necho {name}\n")
-        (self.uname / "uname").chmod(0o755)
+        self.uname = called(folder / "bin", name)
 
     def run(self, line, environment):
         environment = {**environment, "PATH": f"{self.uname}:{environment['PATH']}"}
@@ -168,26 +174,34 @@ def test_program_that_does_not_start_is_passed_over(tmp_path):
     assert not at.told.exists()
 
 
+def installed(start, tmp_path, machine):
+    """A run of `install` for a machine: on it, as `uname` says, or staged as packages are made on another one; and the
+    folder below which it installs."""
+    at = Checkout(tmp_path)
+    if start == "staged":
+        environment = {**os.environ, "DESTDIR": str(tmp_path / "stage"), "LAS_MACHINE": machine}
+        return commands.quiet([at.path("install"), "/usr"], env=environment), tmp_path / "stage" / "usr"
+    environment = {**os.environ, "PATH": f"{called(tmp_path / 'bin', machine)}:{os.environ['PATH']}"}
+    return commands.quiet([at.path("install"), tmp_path / "usr"], env=environment), tmp_path / "usr"
+
+
+@pytest.mark.parametrize("start", ["staged", "by uname"])
 @pytest.mark.parametrize("machine, names", [
     (X86, {"las-x86-64-v2", "las-x86-64-v3", "las-x86-64-static"}), (ARM, {"las-aarch64", "las-aarch64-static"})])
-def test_staged_for(tmp_path, machine, names):
-    """A package for one machine can be made on another."""
-    at = Checkout(tmp_path)
-    environment = {**os.environ, "DESTDIR": str(tmp_path / "stage"), "LAS_MACHINE": machine}
-    commands.good([at.path("install"), "/usr"], env=environment)
-    root = tmp_path / "stage" / "usr"
+def test_installed_for(tmp_path, machine, names, start):
+    run, root = installed(start, tmp_path, machine)
+    assert (run.returncode, run.stderr) == (0, b"")
     assert {path.name for path in (root / "libexec" / "las").iterdir()} == names
     assert (root / "lib" / "liblaz.a").exists()
     assert (root / "lib" / "glibc-hwcaps").exists() == (machine == X86)
 
 
-def test_installation_on_another_machine(tmp_path):
-    at = Checkout(tmp_path)
-    environment = {**os.environ, "DESTDIR": str(tmp_path / "stage"), "LAS_MACHINE": "riscv64"}
-    run = commands.quiet([at.path("install"), "/usr"], env=environment)
+@pytest.mark.parametrize("start", ["staged", "by uname"])
+def test_installation_on_another_machine(tmp_path, start):
+    run, root = installed(start, tmp_path, "riscv64")
     assert run.returncode == 1
     assert run.stderr == b"install: no program runs on riscv64: there are programs for Linux on x86_64 and aarch64\n"
-    assert not (tmp_path / "stage").exists()
+    assert not root.exists()
 
 
 @pytest.fixture
@@ -220,23 +234,47 @@ def small_system(tmp_path):
     commands.quiet(["umount", "-l", root / "proc"])
 
 
+def ended_in(root, script):
+    """A script of the shell of a root folder, run in it."""
+    chroot = needs.command("chroot", "coreutils")
+    return commands.quiet([chroot, root, "/bin/sh", "-ec", script], env={"PATH": "/bin", "HOME": "/root"})
+
+
+def good_in(root, script):
+    """What a script printed, which has to end with status 0 and without a line on standard error."""
+    run = ended_in(root, script)
+    assert (run.returncode, run.stderr) == (0, b""), (run.stdout + run.stderr).decode()
+    return run.stdout.decode()
+
+
 @pytest.mark.root
 def test_alpines_layout(small_system):
     """First command, installation, the installed program and its removal, in busybox's sh and without glibc."""
-    chroot = needs.command("chroot", "coreutils")
-
     def inside(script):
-        run = commands.quiet([chroot, small_system, "/bin/sh", "-ec", script],
-                             env={"PATH": "/bin", "HOME": "/root"})
-        assert (run.returncode, run.stderr) == (0, b""), (run.stdout + run.stderr).decode()
-        return run.stdout.decode()
+        return good_in(small_system, script)
 
     assert inside("cd /las && ./las laszip -i examples/tile.laz -o /tmp/a.las && wc -c </tmp/a.las") == "574125\n"
     assert inside("cd /las && ./las --version").splitlines()[-1].endswith("/las-x86-64-static")
     inside("cd /las && ./install /opt/las && cp examples/tile.laz /tmp && mv /las /gone")
     inside("cd /tmp && /opt/las/bin/las laszip -i a.las -o b.laz -cores 2 && cmp b.laz tile.laz")
     assert inside("/opt/las/bin/las --version").splitlines()[-1].endswith("/las-x86-64-static")
-    assert "usage: word 1" in commands.quiet([chroot, small_system, "/opt/las/bin/las", "laszip"],
-                                             env={"PATH": "/bin"}).stderr.decode()
+    assert "usage: word 1" in ended_in(small_system, "/opt/las/bin/las laszip").stderr.decode()
+    run = ended_in(small_system, "/opt/las/bin/las-batch laszip -odir /packed /tmp/a.las")
+    assert (run.returncode, run.stderr.count(b"\n")) == (127, 1)
+    assert "python3" in run.stderr.decode()
     inside("mv /gone /las && cd /las && ./install --remove /opt/las && test ! -e /opt/las")
     assert systems.LINKED[1] == "las-x86-64-static"
+
+
+@pytest.mark.root
+def test_archive_in_alpines_layout(small_system, tmp_path_factory):
+    """The archive for x86_64 runs where busybox's tar has unpacked it, and needs nothing of a clone."""
+    shutil.rmtree(small_system / "las")
+    archives = made_by("tar", tmp_path_factory)
+    name, = (name for name in archives if name.endswith("-linux-x86_64.tar.gz"))
+    shutil.copy(archives[name], small_system / "tmp")
+    shutil.copy(TOP / "examples" / "tile.laz", small_system / "tmp")
+    las = f"/tmp/{name[:-len('.tar.gz')]}/bin/las"
+    good_in(small_system, f"cd /tmp && tar -xzf {name} && {las} laszip -i tile.laz -o a.las")
+    good_in(small_system, f"cd /tmp && {las} laszip -i a.las -o b.laz -cores 2 && cmp b.laz tile.laz")
+    assert good_in(small_system, f"{las} --version").splitlines()[-1].endswith("/las-x86-64-static")
