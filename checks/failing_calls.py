@@ -102,7 +102,7 @@ class Runs:
             else:
                 self.place.path(name).unlink(missing_ok=True)
         texts = {name: str(value) for name, value in settings.items()}
-        return self.place.las(*(words or self.words), timeout=60,
+        return self.place.las(*(words or self.words),
                               env={**os.environ, "LD_PRELOAD": str(self.preloaded), **texts})
 
     def left(self) -> dict[str, bytes]:

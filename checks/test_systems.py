@@ -295,7 +295,7 @@ def old_debian(tmp_path_factory):
     root = tmp_path_factory.mktemp("debian") / "root"
     run = commands.quiet(["debootstrap", "--variant=minbase", "--include=python3,python3-numpy,python3-pytest,"
                           "python3-hypothesis,gcc,libc6-dev,binutils", "bullseye", root,
-                          "http://deb.debian.org/debian"], timeout=1800)
+                          "http://deb.debian.org/debian"], timeout=7200)
     if run.returncode != 0:
         needs.missing("debootstrap could not fetch Debian 11", "to reach Debian's packages")
     archive = commands.quiet(["git", "-C", TOP, "ls-files", "-coz", "--exclude-standard"]).stdout.split(b"\0")
@@ -306,7 +306,7 @@ def old_debian(tmp_path_factory):
     commands.good(["mount", "-t", "proc", "proc", root / "proc"])
 
     def inside(script, status=0):
-        ran = commands.quiet(["chroot", root, "/bin/sh", "-ec", script], timeout=1800)
+        ran = commands.quiet(["chroot", root, "/bin/sh", "-ec", script], timeout=7200)
         assert ran.returncode == status, (ran.stdout + ran.stderr).decode()
         return (ran.stdout + ran.stderr).decode()
 
