@@ -23,29 +23,15 @@ top=${self%/*}
 help=$top/help
 [ -f "$top/crates.txt" ] || help=$top/../share/las/help
 
-# What has to stay as it is for `program` to be the right one: the sources, which `watched` names with their folders,
-# the release, the build, the program, and the C library of the machine. What changes a file, or the names in a folder,
-# sets its ctime, which nobody can set back. It is called in a subshell, which it replaces.
-listing() {
-    set -f
-    IFS='
-'
-    # shellcheck disable=SC2086
-    CDPATH='' cd -P -- "$top" && exec stat -L -c '%.9Z %i' -- "$program" release/BUILT_FROM crates/las/out/las \
-        crates/las/out/las.built_from crates/las/out/las.stamp /lib64/ld-linux-x86-64.so.2 \
-        /lib/ld-linux-aarch64.so.1 $watched 2>/dev/null
-}
-
-# Sets `program` as the stamp $1 names it, if that still holds. A stamp is words of the shell, which takes them in
-# without another process: `program`, `booted`, `watched` and `listed`.
+# Sets `program` as the stamp $1 names it, if that still holds. A stamp is words of the shell, which does them as they
+# stand: they set `program`, have `stat` tell when each watched file was changed last, and if that is what it was, they
+# set `held`. What changes a file, or the names in a folder, sets its ctime, which nobody can set back.
 stamped() {
-    program='' booted='' watched='' listed='' first=''
-    # what an older launcher wrote under this name are no words of the shell
-    if [ -r "$1" ]; then read -r first <"$1"; fi
-    case $first in "program='"*"'") ;; *) return 1 ;; esac
+    [ -r "$1" ] || return 1
+    program='' held=''
     # shellcheck disable=SC1090
     command . "$1" 2>/dev/null
-    [ -n "$program" ] && [ "$booted" = "$boot" ] && [ "$(listing)" = "$listed" ] || return 1
+    [ -n "$held" ] || return 1
     case $program in /*) ;; *) program=$top/$program ;; esac
 }
 
@@ -59,10 +45,11 @@ find_program() {
     kept=${XDG_CACHE_HOME:-${HOME:+$HOME/.cache}}
     kept=${kept:-/dev/null}/las
     boot=
+    # shellcheck disable=SC2034
     read -r boot 2>/dev/null </proc/sys/kernel/random/boot_id
-    [ -z "${LAS_PROGRAM-}" ] && stamped "$top/release/out/stamp" && return
+    [ -z "${LAS_PROGRAM-}" ] && stamped "$top/release/out/stamp.sh" && return
     # (of a checkout that can't be written)
-    kept_stamp=$kept/checkouts$(CDPATH='' cd -P -- "$top" && pwd -P)/stamp
+    kept_stamp=$kept/checkouts$(CDPATH='' cd -P -- "$top" && pwd -P)/stamp.sh
     [ -z "${LAS_PROGRAM-}" ] && stamped "$kept_stamp" && return
     program=$(. "$top/release/choose.sh" </dev/null) || exit 1
 }

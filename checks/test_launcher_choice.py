@@ -184,15 +184,17 @@ def test_changed_source_is_built_with_rt(checkout, start):
 
 @pytest.mark.parametrize("damage", [
     lambda stamp: b"", lambda stamp: bytes(len(stamp)), lambda stamp: stamp[:len(stamp) // 2], lambda stamp: stamp[:20],
+    lambda stamp: stamp.splitlines(True)[0], lambda stamp: stamp[:stamp.index(b" && held=")],
     lambda stamp: stamp + b"(", lambda stamp: stamp.replace(b"program='release/out/las", b"program='release/out/gone"),
-    lambda stamp: b"return 3\n" + stamp, lambda stamp: stamp.replace(b"listed=", b"fisted=")],
-    ids=["empty", "zeros", "half of it", "its first bytes", "a word too many", "a program that is not there",
-         "words that end it", "without what is listed"])
+    lambda stamp: b"return 3\n" + stamp, lambda stamp: stamp.replace(b" = '1", b" = '2"),
+    lambda stamp: stamp.replace(b"low/src/lib.rt ", b"")],
+    ids=["empty", "zeros", "half of it", "its first bytes", "its first line", "without its end", "a word too many",
+         "a program that is not there", "words that end it", "other times", "without a source"])
 def test_stamp_that_is_damaged_is_passed_over(checkout, damage):
     assert checkout.ran("laszip") == ("released", "")
-    stamp = checkout.path("release", "out", "stamp")
+    stamp = checkout.path("release", "out", "stamp.sh")
     whole = stamp.read_bytes()
-    assert b"listed='1" in whole and b"crates/low/src/lib.rt" in whole and b"crates/other" not in whole
+    assert b" = '1" in whole and b" low/src/lib.rt " in whole and b" other/" not in whole
     stamp.write_bytes(damage(whole))
     assert [checkout.ran("laszip") for _ in range(2)] == [("released", "")] * 2
     checkout.source().write_text("pub fn two() {}\n")
@@ -201,11 +203,21 @@ def test_stamp_that_is_damaged_is_passed_over(checkout, damage):
 
 
 def test_stamp_of_an_older_launcher_is_not_run(checkout):
-    """Its first line was the path of the program, and the others what was listed."""
+    """It has another name, and was no words of the shell: its first line was the path of the program."""
     assert checkout.ran("laszip") == ("released", "")
     checkout.path("release", "out", "stamp").write_text(": >ran\nboot\ncrates.txt f 1 2 3 4 5\n")
     assert checkout.ran("laszip") == ("released", "")
     assert not checkout.path("ran").exists()
+
+
+@pytest.mark.parametrize("name", ["a b.rt", "it's.rt", "'.rt", "$x`y`.rt", "a\\nb.rt", "ä.rt", "\udcff.rt", "-L", "~"])
+def test_source_of_an_odd_name_is_watched(checkout, name):
+    checkout.source(name=name).write_text("pub fn one() {}\n")
+    checkout.release()
+    assert [checkout.ran("laszip") for _ in range(2)] == [("released", "")] * 2
+    assert b"held=1" in checkout.path("release", "out", "stamp.sh").read_bytes()
+    checkout.source(name=name).write_text("pub fn two() {}\n")
+    assert checkout.ran("laszip")[0] is None
 
 
 def test_build_says_how_far_it_is(checkout):

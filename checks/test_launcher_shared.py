@@ -46,7 +46,7 @@ def test_a_second_user_runs_the_program_that_the_first_has_unpacked(checkout: Tr
     subprocess.run(["chown", "-R", "1234", str(checkout.folder)], check=True)
     first = run_as(1234, checkout)
     assert (first.returncode, first.stdout, first.stderr) == (0, b"version 1\n", b"")
-    assert (checkout.folder / "release" / "out" / "stamp").exists()
+    assert (checkout.folder / "release" / "out" / "stamp.sh").exists()
     for _ in range(2):
         second = run_as(2345, checkout, umask)
         assert (second.returncode, second.stdout, second.stderr) == (0, b"version 1\n", b"")
@@ -58,7 +58,7 @@ def test_a_stamp_that_another_user_has_closed_is_passed_over(checkout: Trial) ->
     needs.command("setpriv", "util-linux")
     subprocess.run(["chown", "-R", "1234", str(checkout.folder)], check=True)
     assert run_as(1234, checkout).returncode == 0
-    (checkout.folder / "release" / "out" / "stamp").chmod(0o600)
+    (checkout.folder / "release" / "out" / "stamp.sh").chmod(0o600)
     for _ in range(2):
         second = run_as(2345, checkout)
         assert (second.returncode, second.stdout, second.stderr) == (0, b"version 1\n", b"")

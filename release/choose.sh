@@ -6,12 +6,34 @@ true >&2 || exec 2>/dev/null
 . "$top/release/processor.sh"
 . "$top/release/build.sh"
 
-# The names of the sources of `las` and of the crates that it stands on, and of their folders
-source_names() {
-    CDPATH='' cd -P -- "$top" || return 1
-    set -- crates.txt
-    for crate in $(release/sources --crates); do set -- "$@" "crates/$crate/src"; done
-    find "$@" -print
+# The names of what decides which program is the right one, as words of the shell, from the folder `crates`: the sources
+# of `las` and of the crates that it stands on, with their folders; the release, the build, and the C library of the
+# machine. In place of a file that is not there stands the folder that would get it.
+watched_names() {
+    CDPATH='' cd -P -- "$top/crates" || return 1
+    {
+        for name in ../release/BUILT_FROM las/out/las las/out/las.built_from las/out/las.stamp; do
+            while [ ! -e "$name" ]; do name=${name%/*}; done
+            printf '%s\n' "$name"
+        done | sort -u
+        for name in /lib64/ld-linux-x86-64.so.2 /lib/ld-linux-aarch64.so.1; do
+            # (a program that runs without a C library runs beside one)
+            if [ -e "$name" ]; then printf '%s\n' "$name"; fi
+        done
+        set -- ../crates.txt
+        for crate in $(../release/sources --crates); do set -- "$@" "$crate/src"; done
+        find "$@" -print
+    } | LC_ALL=C sed "/[^A-Za-z0-9_./-]/{ s/'/'\\\\''/g; s/.*/'&'/; }"
+}
+
+# The words of a stamp by which `stat` tells to the millisecond when each watched file was changed last. A name from the
+# top is one from `crates` here.
+looking() {
+    case $program in /*) from= ;; *) from=../ ;; esac
+    # (no messages of another language are looked for)
+    printf 'LC_ALL=C; export LC_ALL; CDPATH="" cd -P -- "$top/crates" && '
+    printf 'exec %s -L -c %%.3Z -- %s"$program" ' "$1" "$from"
+    printf '%s' "$2" | tr '\n' ' '
 }
 
 # What `find` tells of the sources alone
@@ -82,24 +104,27 @@ released() {
     return 1
 }
 
-# Writes the stamp for the program $1 in one of the two places, if one can be written; renamed, so that it is whole. There
-# is none if a source was changed since it was read, if `find` or `stat` can't tell of changes here, or if a name has a
-# quotation mark.
+# Writes the stamp for the program $1 in one of the two places, if one can be written; renamed, so that it is whole.
+# There is none if a source was changed since it was read, if `find` or `stat` can't tell of changes here, or if the
+# program's name has a quotation mark. `held` is set last: a stamp that is cut does not hold.
 stamp_program() {
     program=$1
-    watched=$(source_names)
-    listed=$(listing)
+    stat=$(command -v stat)
+    watched=$(watched_names)
+    case $program$stat$boot in *\'*) return ;; esac
+    looking=$(looking "'$stat'" "$watched")
+    listed=$(eval "$looking" 2>/dev/null)
     now=$(source_listing)
     if [ "$before" != "$now" ]; then return; fi
     case $now in 'crates.txt f '*) ;; *) return ;; esac
-    case $listed in [0-9]*.[0-9]*\ [0-9]*) ;; *) return ;; esac
-    case $program$watched in *\'*) return ;; esac
-    for stamp in "$top/release/out/stamp" "$kept_stamp"; do
+    case $listed in [0-9]*.[0-9][0-9][0-9]*) ;; *) return ;; esac
+    for stamp in "$top/release/out/stamp.sh" "$kept_stamp"; do
         folder=${stamp%/*}
         mkdir -p -- "$folder" 2>/dev/null && fresh=$(mktemp "$folder/.stamp.XXXXXX" 2>/dev/null) || continue
         # (readable, for others who use this checkout)
-        printf "%s='%s'\\n" program "$program" booted "$boot" watched "$watched" listed "$listed" >"$fresh" &&
-            chmod 644 "$fresh" && mv -f -- "$fresh" "$stamp" && return
+        printf "program='%s'\n[ \"\$boot\" = '%s' ] && [ \"\$(%s)\" = '%s' ] && held=1\n" \
+            "$program" "$boot" "$looking" "$listed" >"$fresh" && chmod 644 "$fresh" && mv -f -- "$fresh" "$stamp" &&
+            return
         rm -f -- "$fresh"
     done
 }
