@@ -94,6 +94,22 @@ def test_program_on(tmp_path, name, start):
         assert told(at) == wanted
 
 
+@pytest.mark.parametrize("start", ["in a checkout", "installed"])
+def test_names_of_the_environment_say_nothing_of_the_machine(tmp_path, start):
+    at = Checkout(tmp_path)
+    launcher = at.path("las")
+    if start == "installed":
+        launcher = tmp_path / "installed" / "bin" / "las"
+        install(at, tmp_path / "installed", TELLER)
+    found = {}
+    for name, more in (("without", {}), ("with", {"machine": "riscv64", "flags": " lm ", "program": "x", "held": "1"})):
+        at.forget()
+        run = commands.quiet([launcher, "laszip"], env={**at.without_rt(), **more}, timeout=60)
+        assert (run.returncode, run.stderr) == (0, b"")
+        found[name] = told(at)
+    assert found["with"] == found["without"]
+
+
 NAMES_ITSELF = """#!/bin/sh
 [ $# -gt 0 ] || { echo 'usage: word 0' >&2; exit 2; }
 echo "${0##*/}"

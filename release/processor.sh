@@ -5,9 +5,13 @@ PROGRAMS="las-x86-64-v3 las-x86-64-v2 las-x86-64-static las-aarch64 las-aarch64-
 
 SYSTEMS="there are programs for Linux on x86_64, of x86-64-v2 or later, and on aarch64"
 
-# Sets `flags` to those of the first processor, with a blank at both ends.
+# What was found, for the next question. Nothing of it comes from the environment.
+flags='' machine=''
+
+# Sets `flags` to those of the first processor, with a blank at both ends. The shell reads byte by byte, so it is done
+# once.
 read_flags() {
-    flags=
+    [ -z "$flags" ] || return 0
     while read -r field flags; do
         case $field in flags) break ;; esac
         flags=
@@ -59,7 +63,7 @@ has_glibc() {
 
 # Whether the system runs programs for the processor $1. Only the second question takes another process.
 is_machine() {
-    if [ -z "${machine-}" ]; then
+    if [ -z "$machine" ]; then
         read_flags
         if has_flags lm && has_glibc x86_64; then machine=x86_64; else machine=$(uname -m); fi
     fi
