@@ -5,13 +5,15 @@ came after, or that of some folders alone; of a file there are the bytes and the
 were written, or zeros.
 """
 import os
-from collections.abc import Iterator
+import re
+from collections.abc import Iterable, Iterator
 from pathlib import Path
 from typing import Any, Optional
 
 from file_calls import Call
 
 Tree = dict[str, object]
+COPY = re.compile(r"(.*/)?\.[^/]*\.las-[^/]*\.part")
 Node = tuple[str, Any]  # a folder, a file by its inode, or a link by its target
 FOLDER: Node = ("folder", None)
 NOTHING = (b"", 0o600)
@@ -128,21 +130,68 @@ def trees_after_cuts(disk: TreeDisk, calls: "list[Call]") -> "Iterator[tuple[int
             disk.take(calls[done])
 
 
-def write_tree(top: Path, tree: Tree) -> None:
-    """Puts a tree in the place of what is below a folder."""
-    for path in top.iterdir():
-        if path.is_dir() and not path.is_symlink():
-            write_tree(path, {})
-            path.rmdir()
-        else:
-            path.unlink()
-    for name in sorted(tree):
-        kept, path = tree[name], top / name
-        if kept is None:
-            path.mkdir()
-        elif isinstance(kept, str):
-            path.symlink_to(kept[3:])
-        else:
-            assert isinstance(kept, tuple)
-            path.write_bytes(kept[1])
-            path.chmod(kept[0])
+def states(trees: "Iterable[tuple[int, Tree]]") -> "Iterator[tuple[int, Tree]]":
+    """Of the trees those that another install can tell apart: of a copy under another name it sees the name alone, as
+    `Store.was_read` tells.
+    """
+    seen = set()
+    for at, tree in trees:
+        mark = hash(frozenset((name, "a copy" if is_copy(name, kept) else kept) for name, kept in tree.items()))
+        if mark not in seen:
+            seen.add(mark)
+            yield at, tree
+
+
+def is_copy(name: str, kept: object) -> bool:
+    return isinstance(kept, tuple) and COPY.fullmatch(name) is not None
+
+
+class Store:
+    """Files that hold what files of trees hold, of which trees are put together by hard links. So nothing is written
+    for a tree, and it is known whether a file was written in place, and whether a copy under another name was read.
+    """
+
+    def __init__(self, folder: Path) -> None:
+        self.folder = folder
+        folder.mkdir()
+        self.paths: "dict[tuple[bool, object], Path]" = {}
+
+    def add(self, tree: Tree) -> None:
+        """Puts the files of a tree there."""
+        for name, kept in tree.items():
+            key = is_copy(name, kept), kept
+            if isinstance(kept, tuple) and key not in self.paths:
+                path = self.paths[key] = self.folder / str(len(self.paths))
+                path.write_bytes(kept[1])
+                path.chmod(kept[0])
+                os.utime(path, (1, 2))  # (the time of reading is set if it is older than that of writing)
+
+    def write(self, top: Path, tree: Tree) -> None:
+        """Puts a tree in the place of what is below a folder."""
+        self.clear(top)
+        for name in sorted(tree):
+            kept, path = tree[name], top / name
+            if kept is None:
+                path.mkdir()
+            elif isinstance(kept, str):
+                path.symlink_to(kept[3:])
+            else:
+                os.link(self.paths[is_copy(name, kept), kept], path)
+
+    def clear(self, top: Path) -> None:
+        """Takes away all that is below a folder."""
+        for path in top.iterdir():
+            if path.is_dir() and not path.is_symlink():
+                self.clear(path)
+                path.rmdir()
+            else:
+                path.unlink()
+
+    def was_written(self) -> "list[Path]":
+        """The files that were written in place, or have another mode."""
+        return [path for (_, kept), path in self.paths.items()
+                if isinstance(kept, tuple) and (path.stat().st_mode & 0o777, path.read_bytes()) != kept]
+
+    def was_read(self, copies: bool) -> "list[Path]":
+        """Of the copies under another name, or of the other files, those that were read."""
+        return [path for (one, _), path in self.paths.items() if one == copies and path.stat().st_atime != 1]

@@ -1,9 +1,13 @@
 """A checkout of its own that is installed with one step failing, or with the installer killed there."""
+import copy
 import gzip
 import hashlib
 import os
 import shutil
 import subprocess
+import tempfile
+from collections.abc import Iterator
+from contextlib import contextmanager
 from pathlib import Path
 from typing import Any, Optional
 
@@ -51,6 +55,7 @@ class Trial:
         """Without `whole` the package `batch` has one file alone, which the others would be installed like."""
         self.folder = folder / "checkout"
         self.prefix = prefix or folder / "prefix"
+        self.stage: Optional[Path] = None
         self.temporary = folder / "temporary"
         self.count = folder / "count"
         self.tools = folder / "tools"
@@ -120,8 +125,21 @@ class Trial:
                               stderr=subprocess.PIPE, timeout=120, check=False, start_new_session=True,
                               preexec_fn=commands.heed_signals)
 
+    def staged(self, stage: Path) -> "Trial":
+        """The same checkout, installed below a stage: the prefix that files hold is the same below each."""
+        other = copy.copy(self)
+        other.stage, other.prefix = stage, stage / "prefix"
+        other.count = stage / "count"
+        other.prefix.mkdir(parents=True)
+        return other
+
+    def where(self) -> "tuple[str, dict[str, str]]":
+        """The word for PREFIX, and the environment that goes with it."""
+        return (str(self.prefix), {}) if self.stage is None else ("/prefix", {"DESTDIR": str(self.stage)})
+
     def install(self, *words: str, at: int = 0, how: str = "", **more: Any) -> "subprocess.CompletedProcess[bytes]":
-        return self.run(str(self.folder / "install"), *words, str(self.prefix), at=at, how=how, **more)
+        prefix, environment = self.where()
+        return self.run(str(self.folder / "install"), *words, prefix, at=at, how=how, **environment, **more)
 
     def steps(self, *words: str) -> int:
         """Installs (or removes) with every step counted, and answers how many there were."""
@@ -150,6 +168,22 @@ class Trial:
             return None
         done = self.run(str(launcher), "laszip")
         return (done.stdout + done.stderr).decode().strip()
+
+
+@contextmanager
+def in_memory(folder: Path) -> "Iterator[Path]":
+    """A folder in memory, where a machine has room there and runs programs from it, else the folder that is given."""
+    memory = Path("/dev/shm")
+    if not os.access(memory, os.W_OK) or shutil.disk_usage(memory).free < 1_000_000_000:
+        yield folder
+        return
+    with tempfile.TemporaryDirectory(dir=memory, prefix="checks-") as name:
+        script = Path(name) / "script"
+        script.write_text("#!/bin/sh\n")
+        script.chmod(0o755)
+        runs = os.access(script, os.X_OK)
+        script.unlink()
+        yield Path(name) if runs else folder
 
 
 def differences(found: "dict[str, object]", wanted: "dict[str, object]") -> "list[str]":
