@@ -65,6 +65,10 @@ class Servers:
                 process.wait()
 
 
+# OpenSSH's first choice takes a fifth of a second of a processor for each connection, and this one a thirtieth.
+KEY_EXCHANGE = "curve25519-sha256"
+
+
 class SshServer(Servers):
     """An ssh server with keys of its own, on a free port. `environment` has GNU parallel go there."""
 
@@ -82,6 +86,7 @@ class SshServer(Servers):
             f"Port {port}", "ListenAddress 127.0.0.1", f"HostKey {path('host')}",
             f"AuthorizedKeysFile {path('authorized')}",
             "PidFile none", "StrictModes no", "PasswordAuthentication no", "KbdInteractiveAuthentication no",
+            f"KexAlgorithms {KEY_EXCHANGE}",
             f"SetEnv HOME={self.home}", "MaxStartups 100", "MaxSessions 100", "PermitRootLogin yes"])
         self.write("ssh", ["#!/bin/sh", f"exec /usr/bin/ssh -p {port} -i '{path('user')}' "
                            f"-o UserKnownHostsFile='{path('known')}' -o StrictHostKeyChecking=accept-new "
