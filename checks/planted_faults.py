@@ -73,11 +73,13 @@ def found_by(program: str, folder: Path, command: str, fault: str) -> list[str]:
     planted.write_text(PLANTED_FAULT.format(program=program, command=command, fault=fault))
     wrapper.chmod(0o755)
     here = programs.TOP / "checks"
-    line = [sys.executable, "-m", "pytest", "-c", f"{here}/pytest.ini", "--rootdir", f"{here}", "-p", "no:xdist",
+    # names alone are read: no assertion has to tell what it found, and no plugin is needed
+    line = [sys.executable, "-m", "pytest", "-c", f"{here}/pytest.ini", "--rootdir", f"{here}", "--assert=plain",
             "-rfE", "--tb=no", f"--program={wrapper}", f"{here}/test_whole_runs.py"]
     bare = {name: text for name, text in os.environ.items() if not name.startswith("PYTEST_")}
     run = subprocess.run(line, cwd=folder, check=False, stdin=subprocess.DEVNULL, stdout=subprocess.PIPE,
-                         stderr=subprocess.STDOUT, env={**bare, "PYTHONDONTWRITEBYTECODE": "1"})
+                         stderr=subprocess.STDOUT,
+                         env={**bare, "PYTHONDONTWRITEBYTECODE": "1", "PYTEST_DISABLE_PLUGIN_AUTOLOAD": "1"})
     said = run.stdout.decode(errors="replace")
     if run.returncode not in (0, 1) or " passed" not in said:
         raise RuntimeError(said)
