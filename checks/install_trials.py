@@ -20,6 +20,7 @@ COUNTED = r"""#!/bin/sh
 read -r count <"$COUNT"
 count=$((count + 1))
 printf '%s\n' "$count" >"$COUNT"
+[ "$HOW" != counted ] || printf '%s\n' "${0##*/}" >>"$COUNT.names"
 if [ "$HOW" = full ] && [ "$AT" -gt 0 ] && [ "$count" -ge "$AT" ]; then
     # of a copy there is a first part
     case ${0##*/} in
@@ -141,11 +142,13 @@ class Trial:
         prefix, environment = self.where()
         return self.run(str(self.folder / "install"), *words, prefix, at=at, how=how, **environment, **more)
 
-    def steps(self, *words: str) -> int:
-        """Installs (or removes) with every step counted, and answers how many there were."""
+    def steps(self, *words: str) -> "list[str]":
+        """Installs (or removes) with every step counted, and answers the command of each."""
+        names = self.count.with_suffix(".names")
+        names.write_text("")
         done = self.install(*words, how="counted")
         assert done.returncode == 0, done.stderr
-        return int(self.count.read_text())
+        return names.read_text().split()
 
     def tree(self) -> "dict[str, object]":
         """Every name below the prefix: what a file holds, where a link goes, None for a folder."""

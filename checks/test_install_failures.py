@@ -4,6 +4,7 @@ another run mends it, and what it put there can be taken away.
 import os
 import subprocess
 from pathlib import Path
+from typing import Union
 
 import pytest
 
@@ -12,17 +13,31 @@ from install_trials import Trial, differences, final
 
 HOWS = ["fails", "before", "after", "interrupt"]
 FULL = "full"  # no room from that step to the end
-SHARES = 16
-# the first share in the gate, the others beside it
-SHARE = [pytest.param(share, marks=pytest.mark.huge if share else pytest.mark.slow(seconds=5))
-         for share in range(SHARES)]
+SHARES = 16  # of all steps, beside the gate, which takes some of each kind
+SOME = "some"
+SHARE = [pytest.param(SOME, marks=pytest.mark.slow(seconds=5)),
+         *(pytest.param(share, marks=pytest.mark.huge) for share in range(SHARES))]
 
 
-def chosen(steps: int, how: str, share: int) -> "list[int]":
+def some_of(steps: "list[str]", how: str) -> "list[int]":
+    """A step of every third command by which `install` changes files: each command is met by one or two of the ways to
+    end, and each way has its steps in another part of the run.
+    """
+    way = [*HOWS, FULL].index(how)
+    found = set()
+    for name in list(dict.fromkeys(steps))[way % 3::3]:
+        places = [at for at, one in enumerate(steps, 1) if one == name]
+        found.add(places[way * (len(places) - 1) // len(HOWS)])
+    return sorted(found)
+
+
+def chosen(steps: "list[str]", how: str, share: Union[int, str]) -> "list[int]":
     """The steps of a share of them. Each way to end takes every third one, so that each step is met by one or two. A
     full disk takes every second one, since of two steps in a row no more than one is a copy.
     """
-    mine = range(1, steps + 1, 2) if how == FULL else range(1 + HOWS.index(how) % 3, steps + 1, 3)
+    if isinstance(share, str):
+        return some_of(steps, how)
+    mine = range(1, len(steps) + 1, 2) if how == FULL else range(1 + HOWS.index(how) % 3, len(steps) + 1, 3)
     return list(mine)[share::SHARES]
 
 
@@ -57,11 +72,12 @@ def whole(trial: Trial) -> "dict[str, object]":
 
 @pytest.mark.parametrize("share", SHARE)
 @pytest.mark.parametrize("how", [*HOWS, FULL])
-def test_a_first_install_that_ends_at_a_step_is_mended_by_the_next(trial: Trial, how: str, share: int) -> None:
+def test_a_first_install_that_ends_at_a_step_is_mended_by_the_next(trial: Trial, how: str,
+                                                                   share: Union[int, str]) -> None:
     wanted = whole(trial)
     steps = trial.steps()
     assert trial.install("--remove").returncode == 0
-    assert steps > 20
+    assert len(steps) > 20
     failures = 0
     for at in chosen(steps, how, share):
         ended = trial.install(at=at, how=how)
@@ -80,7 +96,8 @@ def test_a_first_install_that_ends_at_a_step_is_mended_by_the_next(trial: Trial,
 
 @pytest.mark.parametrize("share", SHARE)
 @pytest.mark.parametrize("how", [*HOWS, FULL])
-def test_an_upgrade_that_ends_at_a_step_leaves_a_program_that_runs(trial: Trial, how: str, share: int) -> None:
+def test_an_upgrade_that_ends_at_a_step_leaves_a_program_that_runs(trial: Trial, how: str,
+                                                                   share: Union[int, str]) -> None:
     trial.release(2)
     wanted = whole(trial)
     trial.release(1)
@@ -102,12 +119,13 @@ def test_an_upgrade_that_ends_at_a_step_leaves_a_program_that_runs(trial: Trial,
         assert same(trial, wanted) == [], at
 
 
-@pytest.mark.slow
+@pytest.mark.parametrize("every", [pytest.param(54, marks=pytest.mark.slow(seconds=4)),
+                                   pytest.param(8, marks=pytest.mark.huge)])
 @pytest.mark.parametrize("how", HOWS)
-def test_an_install_that_was_cut_off_can_be_removed(trial: Trial, how: str) -> None:
+def test_an_install_that_was_cut_off_can_be_removed(trial: Trial, how: str, every: int) -> None:
     steps = trial.steps()
     assert trial.install("--remove").returncode == 0
-    for at in range(1 + HOWS.index(how), steps + 1, 32):
+    for at in range(1 + HOWS.index(how), len(steps) + 1, every):
         trial.install(at=at, how=how)
         removed = trial.install("--remove")
         left = {name for name, kept in trial.tree().items() if kept is not None}
@@ -117,12 +135,12 @@ def test_an_install_that_was_cut_off_can_be_removed(trial: Trial, how: str) -> N
         assert trial.install("--remove").returncode == 0
 
 
-@pytest.mark.slow
+@pytest.mark.slow(seconds=3)
 @pytest.mark.parametrize("how", [*HOWS, FULL])
 def test_a_removal_that_ends_at_a_step_can_be_repeated(trial: Trial, how: str) -> None:
     assert trial.install().returncode == 0
     steps = trial.steps("--remove")
-    for at in range(1 + [*HOWS, FULL].index(how), steps + 1, 24):
+    for at in range(1 + [*HOWS, FULL].index(how), len(steps) + 1, 24):
         assert trial.install().returncode == 0
         (trial.prefix / "bin" / "mine").write_bytes(b"mine")
         trial.install("--remove", at=at, how=how)
@@ -133,44 +151,10 @@ def test_a_removal_that_ends_at_a_step_can_be_repeated(trial: Trial, how: str) -
         (trial.prefix / "bin" / "mine").unlink()
 
 
-@pytest.mark.slow
-@pytest.mark.parametrize("how", HOWS)
-def test_some_steps_of_a_first_install(trial: Trial, how: str) -> None:
-    """A few of the steps, in each run of the suite; all of them take `--all`."""
-    wanted = whole(trial)
-    steps = trial.steps()
-    assert trial.install("--remove").returncode == 0
-    for at in range(2 + HOWS.index(how), steps + 1, max(steps // 4, 1)):
-        trial.install(at=at, how=how)
-        left = final(trial.tree())
-        assert left.items() <= final(wanted).items(), (at, differences(left, final(wanted)))
-        assert trial.install().returncode == 0, at
-        assert same(trial, wanted) == [], at
-        assert trial.install("--remove").returncode == 0
-        assert is_empty(trial), at
-
-
-@pytest.mark.slow
-@pytest.mark.parametrize("how", HOWS)
-def test_some_steps_of_an_upgrade(trial: Trial, how: str) -> None:
-    assert trial.install().returncode == 0
-    trial.release(2)
-    steps = trial.steps()
-    wanted = trial.tree()
-    for at in range(2 + HOWS.index(how), steps + 1, max(steps // 4, 1)):
-        trial.release(1)
-        assert trial.install().returncode == 0
-        trial.release(2)
-        trial.install(at=at, how=how)
-        assert trial.version() in ("version 1", "version 2"), at
-        again = trial.install()
-        assert again.returncode == 0, (at, again.stderr)
-        assert same(trial, wanted) == [], at
-
-
 @pytest.mark.root
-@pytest.mark.slow(seconds=20)
-def test_a_disk_that_is_full_at_any_place(tmp_path: Path, small_disk) -> None:
+@pytest.mark.parametrize("step", [pytest.param(20, marks=pytest.mark.slow(seconds=6)),
+                                  pytest.param(7, marks=pytest.mark.huge)])
+def test_a_disk_that_is_full_at_any_place(tmp_path: Path, small_disk, step: int) -> None:
     """The disk has room for a number of blocks; then it gets room, and the same line installs."""
     disk = small_disk(64_000_000)
     tmp_path.chmod(0o755)
@@ -182,7 +166,7 @@ def test_a_disk_that_is_full_at_any_place(tmp_path: Path, small_disk) -> None:
         subprocess.run(["mount", "-o", f"remount,size={size}", str(disk)], check=True)
 
     failures = 0
-    for blocks in range(1, 400, 7):
+    for blocks in range(1, 400, step):
         room(4096 * blocks)
         limited = trial.install()
         if limited.returncode == 0:
@@ -196,7 +180,7 @@ def test_a_disk_that_is_full_at_any_place(tmp_path: Path, small_disk) -> None:
         assert same(trial, wanted) == [], blocks
         assert trial.install("--remove").returncode == 0
         assert trial.tree() == {}, blocks
-    assert failures > 5
+    assert failures > 4
 
 
 @pytest.mark.root
