@@ -1,6 +1,7 @@
 """A minute of coverage-guided fuzzing of the proved decoder: the LLVM module that the library is compiled from, with
 counters of what was reached. fuzz/README.md says how to run it for hours.
 """
+import os
 import re
 import subprocess
 from pathlib import Path
@@ -58,14 +59,19 @@ def test_a_fault_that_eight_bytes_guard_is_found(tmp_path: Path) -> None:
 
 @pytest.fixture(scope="module")
 def decode(tmp_path_factory: pytest.TempPathFactory) -> Path:
-    """The fuzzer, built of what `rt ci` has left."""
+    """The fuzzer, built of the module that LAS_LLVM_MODULE names, as `release/make --check` leaves it; else of what
+    `rt ci` has left, for which laz_c is proved once more.
+    """
     needs_fuzzer()
+    module = os.environ.get("LAS_LLVM_MODULE")
+    if module:
+        return built(tmp_path_factory.mktemp("fuzz"), Path(module).resolve())
     if not (TOP / "crates" / "laz_chunk" / "out" / "rlib").is_dir():
         needs.missing("the crates below laz_c are not built", "to be run after rt ci")
     return built(tmp_path_factory.mktemp("fuzz"))
 
 
-@pytest.mark.slow(seconds=125)  # laz_c is proved once more for it, which takes more than the minute
+@pytest.mark.slow(seconds=185)  # of which laz_c, if it is proved once more for it, takes two minutes
 def test_a_minute_finds_nothing(decode: Path, tmp_path: Path) -> None:
     status, said = run_for(SECONDS, decode, tmp_path)
     assert status == 0, said[-5000:]

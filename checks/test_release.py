@@ -27,7 +27,7 @@ def changed_program(at):
 # What these give (the real ones need proved crates); a program of aarch64 is run as the others.
 BUILD_FOR = '#!/bin/sh\ncp "$TELLER" "$2" && echo "logic=proved target=$1"\n'
 LINK = '#!/bin/sh\ncp "$GIVES" "$3"\n'
-LIBRARY = ('#!/bin/sh\nshift 4\n[ $# = 1 ] || exit 1\nset -- 1 2 "$1"\n'
+LIBRARY = ('#!/bin/sh\n[ "$3" = --keep ] && echo module >"$4" && shift 4\n[ $# = 1 ] || exit 1\nset -- 1 2 "$1"\n'
            'mkdir -p "$3/glibc-hwcaps/x86-64-v3" "$3/aarch64"\n'
            'for target in x86-64-v2 x86-64-v3 aarch64; do\n'
            'echo "$target logic=proved target=$target"\ndone >"$3/verdicts"\n'
@@ -176,6 +176,7 @@ def test_release_that_is_made_anew_passes(tmp_path):
     assert lines["verdict:laz_c:x86-64-v3"] == "logic=proved target=x86-64-v3"
     assert {path.name for path in at.path("release").glob("*.gz")} == {f"{name}.gz" for name in PACKED}
     assert "give" in commands.good([at.path("release", "make"), "--check"], env=at.with_rt())
+    assert at.path("crates", "laz_c", "out", "laz.bc").read_text() == "module\n"
 
 
 @pytest.mark.parametrize("state", STATES)
