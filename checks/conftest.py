@@ -12,6 +12,7 @@ import pytest
 sys.dont_write_bytecode = True
 pytest.register_assert_rewrite("runs", "commands", "measured", "failing_calls", "library_files")
 
+import costs  # noqa: E402
 import needs  # noqa: E402
 import programs  # noqa: E402
 from places import Place  # noqa: E402
@@ -38,6 +39,7 @@ def pytest_addoption(parser):
     group.addoption("--huge", action="store_true", help="the cases marked `huge`, alone; what is missing is a failure")
     group.addoption("--browser", action="store_true", help="the cases marked `browser`, alone; what is missing is a "
                                                            "failure")
+    group.addoption("--costs", action="store_true", help="tells the processor seconds of each file and each function")
     group.addoption("--alone", choices=["only", "without"], help="cases marked `alone` alone, or all others")
 
 
@@ -51,6 +53,8 @@ def pytest_configure(config):
         config.option.program = programs.named = os.path.abspath(named)
     if not hasattr(config, "workerinput"):
         find_python_first(config)
+    if config.getoption("--costs"):
+        config.pluginmanager.register(costs.Costs())
     needs.required = any(config.getoption(word) for word in ("--all", "--huge", "--browser"))
 
 
