@@ -1,31 +1,35 @@
 """Two hundred small tiles, some with odd names, and what each is packed to by a run of `las` alone."""
-import os
 import shutil
 import subprocess
 from pathlib import Path
 from typing import Optional
 
+import pytest
+
+import needs
+import shared
 from batch_places import Tiles
 
 ODD = ["a b.las", "a'b\"c.las", "line\nfeed.las", "ümläut.las", "$HOME;`date`{}&.las", "-dash.las", "back\\slash.las"]
+NAMES = [*ODD, *(f"{number:03}.las" for number in range(len(ODD), 200))]
 
 
 class Stock:
-    """Tiles that are made once, and copied to the folder of each check."""
+    """Tiles that are made once for all processes of the suite, and copied to the folder of each check."""
 
-    def __init__(self, folder: Path, las: str) -> None:
-        self.las, self.folder = las, folder
-        self.plain: dict[str, bytes] = {}
-        self.packed: dict[str, bytes] = {}
-        (folder / "tiles").mkdir()
-        for number in range(200):
-            name = ODD[number] if number < len(ODD) else f"{number:03}.las"
-            made = folder / "made.las", folder / "made.laz"
-            subprocess.run([las, "make", "-o", made[0], "-z", made[1], "-points", str(100 + number),
-                            "-seed", str(number)], stdout=subprocess.DEVNULL, check=True)
-            os.rename(made[0], folder / "tiles" / name)
-            self.plain[name] = (folder / "tiles" / name).read_bytes()
-            self.packed[packed(name)] = made[1].read_bytes()
+    def __init__(self, tmp_path_factory: pytest.TempPathFactory, las: str) -> None:
+        needs.command("parallel", "parallel")
+        self.las = las
+        self.folder = shared.once(tmp_path_factory, "stock of tiles", self.make)
+        self.plain = {name: (self.folder / "tiles" / name).read_bytes() for name in NAMES}
+        self.packed = {packed(name): (self.folder / "packed" / packed(name)).read_bytes() for name in NAMES}
+
+    def make(self, folder: Path) -> None:
+        for kind in ("tiles", "packed"):
+            (folder / kind).mkdir(exist_ok=True)
+        for number, name in enumerate(NAMES):
+            subprocess.run([self.las, "make", "-o", folder / "tiles" / name, "-z", folder / "packed" / packed(name),
+                            "-points", str(100 + number), "-seed", str(number)], stdout=subprocess.DEVNULL, check=True)
 
     def some(self, count: int) -> dict[str, bytes]:
         """What the first `count` tiles are packed to."""

@@ -11,8 +11,7 @@ from batch_tiles import Stock, StockTiles, ended, packed
 
 @pytest.fixture(scope="module")
 def stock(program, tmp_path_factory):
-    needs.command("parallel", "parallel")
-    return Stock(tmp_path_factory.mktemp("stock"), program)
+    return Stock(tmp_path_factory, program)
 
 
 @pytest.fixture

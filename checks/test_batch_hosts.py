@@ -7,7 +7,6 @@ from pathlib import Path
 
 import pytest
 
-import needs
 from batch_places import processes_with, wait_until
 from batch_servers import SshServer
 from batch_tiles import Stock, StockTiles, ended
@@ -26,8 +25,7 @@ def server():
 
 @pytest.fixture(scope="module")
 def stock(program, tmp_path_factory):
-    needs.command("parallel", "parallel")
-    return Stock(tmp_path_factory.mktemp("stock"), program)
+    return Stock(tmp_path_factory, program)
 
 
 @pytest.fixture

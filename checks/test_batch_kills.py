@@ -7,15 +7,13 @@ import time
 
 import pytest
 
-import needs
 from batch_places import processes_with, wait_until
 from batch_tiles import Stock, StockTiles, ended
 
 
 @pytest.fixture(scope="module")
 def stock(program, tmp_path_factory):
-    needs.command("parallel", "parallel")
-    return Stock(tmp_path_factory.mktemp("stock"), program)
+    return Stock(tmp_path_factory, program)
 
 
 @pytest.fixture

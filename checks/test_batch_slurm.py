@@ -8,7 +8,6 @@ from pathlib import Path
 
 import pytest
 
-import needs
 from batch_places import wait_until
 from batch_servers import Slurm
 from batch_tiles import Stock, StockTiles, ended
@@ -28,8 +27,7 @@ def cluster():
 
 @pytest.fixture(scope="module")
 def stock(program, tmp_path_factory):
-    needs.command("parallel", "parallel")
-    return Stock(tmp_path_factory.mktemp("stock"), program)
+    return Stock(tmp_path_factory, program)
 
 
 @pytest.fixture
