@@ -104,7 +104,7 @@ def answer_of(program, name):
     return " ".join([words[0]] + words[2:]), None
 
 
-ROUNDS = [1, *(pytest.param(number, marks=pytest.mark.slow) for number in (2, 3, 4))]
+ROUNDS = [1, pytest.param(2, marks=pytest.mark.slow), *(pytest.param(at, marks=pytest.mark.huge) for at in (3, 4))]
 
 
 @pytest.mark.parametrize("round_", ROUNDS, ids=lambda number: f"round {number}")
