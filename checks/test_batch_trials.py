@@ -1,6 +1,7 @@
 """File calls of las-batch in turn: one fails, the process is killed there, or an input is replaced before it.
 
-The first part of the calls is those that give names, take them away, and what follows each; `--huge` tries every call.
+In the gate these are some of each kind of call that gives a name or takes one away, spread over the run; `--huge` tries
+each of those, what follows each, and every other call.
 """
 import errno
 import subprocess
@@ -11,7 +12,8 @@ import pytest
 import needs
 from batch_trials import PLAIN_WORDS, TAKING, TELLING, WORDS, Trials
 
-PARTS = 32  # of all calls, beside the first
+SPREAD = "some"  # the part that is in the gate
+PARTS = 32  # of all calls, beside those that tell, which are part 0
 
 
 @pytest.fixture(scope="module")
@@ -31,9 +33,21 @@ def trials(program, tmp_path, library):
     return Trials(tmp_path, program, library)
 
 
+def spread(calls, names, count=3):
+    """The first call of each of these names, the last one, and others between them: `count` of each name."""
+    chosen = set()
+    for name in names:
+        places = [at for at, one in enumerate(calls, 1) if one == name]
+        assert places, (name, calls)
+        chosen |= {places[round(at * (len(places) - 1) / (count - 1))] for at in range(count)}
+    return sorted(chosen)
+
+
 def those_of(part, calls, after=0):
     """The calls of one part. Part 0 is those that tell, and `after` calls after each."""
     assert len(calls) > 200 and "renameat2" in calls, calls
+    if part == SPREAD:
+        return spread(calls, TELLING)
     if part == 0:
         telling = [at for at, name in enumerate(calls, 1) if name in TELLING]
         return sorted({at + more for at in telling for more in range(after + 1)} & set(range(len(calls) + 1)))
@@ -49,8 +63,8 @@ def each(trials, part, after=0):
 
 
 every_part = pytest.mark.parametrize("part", [
-    pytest.param(0, marks=pytest.mark.slow(seconds=20)),
-    *(pytest.param(at, marks=pytest.mark.huge) for at in range(1, PARTS + 1))])
+    pytest.param(SPREAD, marks=pytest.mark.slow(seconds=12)),
+    *(pytest.param(at, marks=pytest.mark.huge) for at in range(PARTS + 1))])
 
 
 @every_part
@@ -86,13 +100,13 @@ def full_disk(trials, chosen, calls, **fault):
 stays_full = pytest.mark.parametrize("fault", [{}, {"stays": 1}], ids=["once", "from then on"])
 
 
-@pytest.mark.slow
+@pytest.mark.parametrize("count", [pytest.param(2, marks=pytest.mark.slow(seconds=15)),
+                                   pytest.param(4, marks=pytest.mark.huge)])
 @stays_full
-def test_a_full_disk_at_some_calls(trials, fault):
-    """The first and the last call of each name that takes room, and some between them."""
+def test_a_full_disk_at_some_calls(trials, fault, count):
+    """The first and the last call of each name that takes room; beside the gate, two between them too."""
     calls = trials.calls()
-    places = {name: [at for at, one in enumerate(calls, 1) if one == name] for name in TAKING}
-    full_disk(trials, sorted({one[at] for one in places.values() for at in (0, len(one) // 3, -1)}), calls, **fault)
+    full_disk(trials, spread(calls, TAKING, count), calls, **fault)
 
 
 @pytest.mark.huge
@@ -125,27 +139,37 @@ def test_an_input_that_is_replaced_before_each_call(trials, part):
         trials.replaced(at, when)
 
 
-def each_of_a_plain_run(trials, names, after=0):
-    """The calls of these names, and some after each, of a run that removes no input and has the drafts synced last."""
+def each_of_a_plain_run(trials, part):
+    """The syncs and names of a run that removes no input and has the drafts synced last: some of each kind, or each of
+    them and the call after it.
+    """
     trials.words = PLAIN_WORDS
     calls = trials.calls()
     assert calls.count("fsync") > 4 and "renameat2" in calls, calls
-    chosen = {at + more for at, name in enumerate(calls, 1) if name in names for more in range(after + 1)}
-    for at in sorted(chosen & set(range(1, len(calls) + 1))):
+    names = {"fsync", "rename", "renameat2"}
+    if part == SPREAD:
+        chosen = spread(calls, names)
+    else:
+        chosen = sorted({at + more for at, name in enumerate(calls, 1) if name in names for more in (0, 1)})
+    for at in (at for at in chosen if at <= len(calls)):
         trials.again()
         yield at, f"at call {at} of {len(calls)}, {calls[at - 1]}"
 
 
-@pytest.mark.slow
-def test_a_kill_before_each_sync_and_name_of_a_plain_run(trials):
-    for at, when in each_of_a_plain_run(trials, {"fsync", "rename", "renameat2"}, after=1):
+some_or_each = pytest.mark.parametrize("part", [pytest.param(SPREAD, marks=pytest.mark.slow(seconds=8)),
+                                                pytest.param("each", marks=pytest.mark.huge)])
+
+
+@some_or_each
+def test_a_kill_before_each_sync_and_name_of_a_plain_run(trials, part):
+    for at, when in each_of_a_plain_run(trials, part):
         trials.kill(at, "before", when)
         trials.ends_well(when)
 
 
-@pytest.mark.slow
-def test_an_error_of_each_sync_and_name_of_a_plain_run(trials):
-    for at, when in each_of_a_plain_run(trials, {"fsync", "rename", "renameat2"}, after=1):
+@some_or_each
+def test_an_error_of_each_sync_and_name_of_a_plain_run(trials, part):
+    for at, when in each_of_a_plain_run(trials, part):
         trials.error(at, errno.EIO, when)
         trials.ends_well(when)
 
@@ -173,13 +197,13 @@ def cut_off_twice(trials, first, fault, chosen):
         trials.ends_well(when)
 
 
-@pytest.mark.slow
+@pytest.mark.slow(seconds=7)
 @pytest.mark.parametrize("fault", ["kill", "error", "full disk"])
 @pytest.mark.parametrize("first", [4, 9])
 def test_a_resume_that_is_cut_off_at_some_calls(trials, first, fault):
-    """Each third of the calls by which `-resume` gives names and takes them away."""
+    """Each sixth of the calls by which `-resume` gives names and takes them away."""
     cut_off_twice(trials, first, fault,
-                  lambda again: [at for at, name in enumerate(again, 1) if name in TELLING][first % 3::3])
+                  lambda again: [at for at, name in enumerate(again, 1) if name in TELLING][first % 3::6])
 
 
 @pytest.mark.huge
