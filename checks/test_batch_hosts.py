@@ -11,7 +11,7 @@ from batch_places import processes_with, wait_until
 from batch_servers import SshServer
 from batch_tiles import Stock, StockTiles, ended
 
-pytestmark = [pytest.mark.servers, pytest.mark.root, pytest.mark.slow(seconds=10)]
+pytestmark = [pytest.mark.servers, pytest.mark.root, pytest.mark.slow(seconds=4)]
 
 
 @pytest.fixture(scope="module")

@@ -143,7 +143,7 @@ def test_wrong_arguments(built, files):
     good(built / "check_files", "wrong", files / "3_4.laz")
 
 
-@pytest.mark.slow(seconds=12)
+@pytest.mark.slow(seconds=20)
 def test_valgrind_finds_nothing(built, files, few):
     needs.command("valgrind", "valgrind")
     line = ["valgrind", "-q", "--error-exitcode=7", "--leak-check=full", built / "check_archive"]
