@@ -235,7 +235,8 @@ def test_a_property_for_random_records(it, np):
     hypothesis = pytest.importorskip("hypothesis", reason=needs.__doc__)
     strategies = hypothesis.strategies
 
-    @hypothesis.settings(max_examples=150, deadline=None, derandomize=True)
+    @hypothesis.settings(max_examples=150, deadline=None, derandomize=True,
+                         suppress_health_check=[hypothesis.HealthCheck.too_slow])
     @hypothesis.given(strategies.data())
     def holds(data):
         format_ = data.draw(strategies.sampled_from(FORMATS))

@@ -48,11 +48,12 @@ def np(it):
 
 @pytest.fixture(scope="module")
 def holds():
-    """Tries a property on examples: the same in each run."""
+    """Tries a property on examples: the same in each run, and as well on a machine that is slow to make them."""
     hypothesis = needs.module("hypothesis", "python3-hypothesis")
 
     def over(**strategies):
-        settings = hypothesis.settings(derandomize=True, deadline=None, max_examples=EXAMPLES, database=None)
+        settings = hypothesis.settings(derandomize=True, deadline=None, max_examples=EXAMPLES, database=None,
+                                       suppress_health_check=[hypothesis.HealthCheck.too_slow])
         return lambda check: settings(hypothesis.given(**strategies)(check))()
     return over
 
