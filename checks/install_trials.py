@@ -134,7 +134,7 @@ class Trial:
         other.prefix.mkdir(parents=True)
         return other
 
-    def where(self) -> "tuple[str, dict[str, str]]":
+    def where(self) -> "tuple[str, dict[str, Any]]":
         """The word for PREFIX, and the environment that goes with it."""
         return (str(self.prefix), {}) if self.stage is None else ("/prefix", {"DESTDIR": str(self.stage)})
 

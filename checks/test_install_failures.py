@@ -3,13 +3,15 @@ another run mends it, and what it put there can be taken away.
 """
 import os
 import subprocess
+from collections.abc import Iterator
 from pathlib import Path
 from typing import Union
 
 import pytest
 
 from file_calls import Call, Watcher
-from install_trials import Trial, differences, final
+from install_power import Store
+from install_trials import Trial, differences, final, in_memory
 
 HOWS = ["fails", "before", "after", "interrupt"]
 FULL = "full"  # no room from that step to the end
@@ -42,12 +44,12 @@ def chosen(steps: "list[str]", how: str, share: Union[int, str]) -> "list[int]":
 
 
 @pytest.fixture
-def trial(tmp_path: Path, request: pytest.FixtureRequest) -> Trial:
+def trial(tmp_path: Path, request: pytest.FixtureRequest) -> "Iterator[Trial]":
     """All files are installed beside the gate, and one of las-batch's in the gate, where the others are of its kind."""
-    tmp_path.chmod(0o755)
-    it = Trial(tmp_path, whole=request.node.get_closest_marker("huge") is not None)
-    it.prefix.mkdir()
-    return it
+    with in_memory(tmp_path) as folder:
+        folder.chmod(0o755)
+        it = Trial(folder, whole=request.node.get_closest_marker("huge") is not None)
+        yield it.staged(folder / "stage")
 
 
 def same(trial: Trial, wanted: "dict[str, object]") -> "list[str]":
@@ -103,13 +105,12 @@ def test_an_upgrade_that_ends_at_a_step_leaves_a_program_that_runs(trial: Trial,
     trial.release(1)
     assert trial.install().returncode == 0
     first = trial.tree()
+    store = Store(trial.temporary / "store")
+    store.add(first)
     trial.release(2)
     steps = trial.steps()
     for at in chosen(steps, how, share):
-        assert trial.install("--remove").returncode == 0
-        trial.release(1)
-        assert trial.install().returncode == 0
-        trial.release(2)
+        store.write(trial.prefix, first)
         trial.install(at=at, how=how)
         assert trial.version() in ("version 1", "version 2"), at
         for name, kept in final(trial.tree()).items():
@@ -117,6 +118,7 @@ def test_an_upgrade_that_ends_at_a_step_leaves_a_program_that_runs(trial: Trial,
         again = trial.install()
         assert again.returncode == 0, (at, again.stderr)
         assert same(trial, wanted) == [], at
+    assert store.was_written() == []
 
 
 @pytest.mark.parametrize("every", [pytest.param(54, marks=pytest.mark.slow(seconds=4)),
@@ -205,7 +207,8 @@ def test_an_upgrade_on_a_full_disk_leaves_what_is_installed(tmp_path: Path, smal
 def calls_of_install(trial: Trial, folder: Path) -> "list[Call]":
     """The calls that change files below the prefix, of all the commands that `install` runs, in their order."""
     watcher = Watcher(folder, trial.prefix)
-    done = watcher.run(str(trial.folder / "install"), str(trial.prefix), TMPDIR=str(trial.temporary))
+    prefix, environment = trial.where()
+    done = watcher.run(str(trial.folder / "install"), prefix, TMPDIR=str(trial.temporary), **environment)
     assert done.returncode == 0, done.stderr
     return watcher.calls()
 
