@@ -25,7 +25,8 @@ def some_done(tiles, name, run, count=25):
     assert wait_until(lambda: run.poll() is not None or len(tiles.outputs(name, hidden=False)) >= count)
 
 
-@pytest.mark.parametrize("words", [[], ["-verify"], ["-verify", "-delete"]], ids=" ".join)
+@pytest.mark.parametrize("words", [*(pytest.param(it, marks=pytest.mark.slow) for it in ([], ["-verify"])),
+                                   ["-verify", "-delete"]], ids=" ".join)
 def test_resume_after_a_kill_of_all(tiles, words):
     with tiles.running("laszip", "-odir", "out", *words, *tiles.names(), las=tiles.slow(0.05)) as run:
         some_done(tiles, "out", run)

@@ -176,8 +176,12 @@ def another_folder(path):
     shutil.copy(other / "state.db", path)
 
 
-@pytest.mark.parametrize("resume", [False, True], ids=["new", "resume"])
-@pytest.mark.parametrize("change", [cut, emptied_page, another_version, another_base, no_base, another_folder],
+@pytest.mark.parametrize("resume", [False, pytest.param(True, marks=pytest.mark.slow(seconds=3))],
+                         ids=["new", "resume"])
+@pytest.mark.parametrize("change", [
+    cut, another_folder,
+    *(pytest.param(it, marks=pytest.mark.slow(seconds=3))
+      for it in (emptied_page, another_version, another_base, no_base))],
                          ids=lambda change: str(change.__name__))
 def test_a_state_that_is_none_is_refused_by_name(tiles, change, resume):
     tiles.make("tiles/000.las")
@@ -224,7 +228,8 @@ class Mounted:
 
 
 @pytest.mark.root
-@pytest.mark.parametrize("kind", ["nfs", "nfs4", "cifs", "9p", "lustre", "ceph", "fuse.sshfs"])
+@pytest.mark.parametrize("kind", ["nfs", *(pytest.param(it, marks=pytest.mark.slow)
+                                           for it in ("nfs4", "cifs", "9p", "lustre", "ceph", "fuse.sshfs"))])
 def test_no_state_lies_on_a_file_server(tiles, kind):
     tiles.make("tiles/a.las")
     tiles.path("a server").mkdir()

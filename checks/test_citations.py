@@ -4,7 +4,11 @@ import shutil
 import subprocess
 from pathlib import Path
 
+import pytest
+
 from programs import TOP
+
+pytestmark = pytest.mark.slow(seconds=6)
 
 UNUSED = {
     "las_header/proofs/Cutting.antt": ("pub unused : (n : ℕ) → n ≡ n\nunused n = refl\n", ["unused"]),

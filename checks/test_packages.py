@@ -38,6 +38,7 @@ def twice(request, tmp_path_factory):
     return [made_by(request.param, tmp_path_factory, name) for name in ("", " again")]
 
 
+@pytest.mark.slow(seconds=6)
 def test_package_has_the_same_bytes_again(twice):
     first, second = twice
     assert list(first) == list(second)
@@ -87,6 +88,7 @@ def machine_of(path: Path) -> int:
     return int.from_bytes(head[18:20], "little")
 
 
+@pytest.mark.slow(seconds=9)
 def test_lintian_has_no_error_and_no_warning(packages):
     needs.command("lintian", "lintian")
     run = subprocess.run(["lintian", "--allow-root", "--fail-on", "error,warning", *debs(packages)],

@@ -156,7 +156,8 @@ PLOTS = {"height": [], "class": ["--by", "class"], "intensity": ["--by", "intens
          "profile": ["--profile", "512300", "5403400", "512400", "5403490", "--by", "class", "--width", "4"]}
 
 
-@pytest.mark.parametrize("kind", PLOTS)
+@pytest.mark.parametrize("kind", [
+    "height", *(pytest.param(it, marks=pytest.mark.slow(seconds=3)) for it in PLOTS if it != "height")])
 def test_plot(it, run, tile, tmp_path, kind):
     needs.module("matplotlib", "python3-matplotlib")
     status, _, said = run("plot", tile, "a.svg", *PLOTS[kind])
@@ -186,6 +187,7 @@ def test_plot_shows_the_highest_point_of_a_pixel(it):
     assert plot.metres_of(it.Head.new(0)) == 1
 
 
+@pytest.mark.slow(seconds=3)
 @pytest.mark.parametrize("data", [b"", bytes(8), b"\xff" * 7])
 def test_plot_of_no_points_and_of_strange_heads(it, run, tmp_path, data):
     needs.module("matplotlib", "python3-matplotlib")

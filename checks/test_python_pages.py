@@ -57,6 +57,7 @@ def test_recipes_are_five():
                                                "Statistics by class", "Convert to a grid"]
 
 
+@pytest.mark.slow(seconds=7)
 def test_thin(it, place):
     run("Thin a huge file")
     whole, thin = it.read("tile.laz"), it.read("thin.laz")

@@ -179,6 +179,7 @@ def test_release_that_is_made_anew_passes(tmp_path):
     assert at.path("crates", "laz_c", "out", "laz.bc").read_text() == "module\n"
 
 
+@pytest.mark.slow
 @pytest.mark.parametrize("state", STATES)
 def test_gate_on(tmp_path, state):
     needs.command("ld", "binutils")  # release/make compares the library only if the same linker made it

@@ -3,6 +3,8 @@ import importlib.util
 import struct
 import zlib
 
+import pytest
+
 import runs
 from pages import rows_of, text_of
 from programs import TOP
@@ -41,6 +43,7 @@ def test_sample_is_packed_again(place):
     assert place.read("again.laz") == PACKED.read_bytes()
 
 
+@pytest.mark.slow(seconds=5)
 def test_picture_of_the_sample():
     """If it fails: run examples/draw_tile.py on the unpacked sample."""
     drawn = script("examples/draw_tile.py").drawn(script("examples/make_tile.py").tile())

@@ -107,7 +107,8 @@ def compared(ours, theirs, words, **options):
     return one.returncode
 
 
-@pytest.mark.parametrize("name", LINKED)
+@pytest.mark.parametrize("name", [
+    pytest.param(it, marks=pytest.mark.slow(seconds=10)) if systems.is_foreign(it) else it for it in LINKED])
 def test_answers_and_bytes_are_those_of_the_program_that_is_checked(linked, program, tmp_path, name):
     places = []
     for folder, runs in (("ours", linked[name]), ("theirs", program)):

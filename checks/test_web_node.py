@@ -56,6 +56,7 @@ def test_whole_files_of_each_layout(files, check):
     assert answers_of(check, names) == plain
 
 
+@pytest.mark.slow(seconds=10)
 def test_chunks_of_1_256_and_50000_points_are_packed_as_by_the_library(files, check, tmp_path):
     rows, wanted = [], []
     for format_, extra in LAYOUTS[::5]:
