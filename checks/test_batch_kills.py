@@ -42,7 +42,8 @@ def test_resume_after_a_kill_of_all(tiles, words):
 
 
 def test_a_second_run_in_the_same_folder_is_refused_while_the_first_lives(tiles):
-    with tiles.running("laszip", "-odir", "out", *tiles.names(), las=tiles.slow(0.05)) as run:
+    # it lives for 25 seconds: the second one starts late on a busy machine
+    with tiles.running("laszip", "-odir", "out", *tiles.names(), las=tiles.slow(0.5)) as run:
         some_done(tiles, "out", run, 5)
         ended(tiles.batch("laszip", "-odir", "out", *tiles.names()), 2, b"another las-batch works in")
         os.kill(run.pid, signal.SIGTERM)

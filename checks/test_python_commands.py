@@ -10,8 +10,10 @@ import zipfile
 
 import pytest
 
+import commands
 import library_files
 import needs
+import shared
 from programs import TOP
 
 SOURCE = TOP / "python" / "src"
@@ -38,6 +40,19 @@ def run(it, tmp_path):
                               env={**environment, **more})
         return done.returncode, done.stdout.decode(), done.stderr.decode()
     return of
+
+
+@pytest.fixture
+def fonts(tmp_path_factory, tmp_path):
+    """The list of fonts, which Matplotlib makes at its first start, and says so if that takes some seconds."""
+    needs.module("matplotlib", "python3-matplotlib")
+
+    def make(folder):
+        commands.good([sys.executable, "-c", "import matplotlib.font_manager"],
+                      env=dict(os.environ, MPLCONFIGDIR=str(folder)))
+
+    for path in shared.once(tmp_path_factory, "fonts", make).glob("fontlist*"):
+        shutil.copy(path, tmp_path)
 
 
 def table():
@@ -158,8 +173,7 @@ PLOTS = {"height": [], "class": ["--by", "class"], "intensity": ["--by", "intens
 
 @pytest.mark.parametrize("kind", [
     "height", *(pytest.param(it, marks=pytest.mark.slow(seconds=3)) for it in PLOTS if it != "height")])
-def test_plot(it, run, tile, tmp_path, kind):
-    needs.module("matplotlib", "python3-matplotlib")
+def test_plot(it, run, fonts, tile, tmp_path, kind):
     status, _, said = run("plot", tile, "a.svg", *PLOTS[kind])
     assert (status, said) == (0, "")
     text = (tmp_path / "a.svg").read_text()
@@ -189,8 +203,7 @@ def test_plot_shows_the_highest_point_of_a_pixel(it):
 
 @pytest.mark.slow(seconds=3)
 @pytest.mark.parametrize("data", [b"", bytes(8), b"\xff" * 7])
-def test_plot_of_no_points_and_of_strange_heads(it, run, tmp_path, data):
-    needs.module("matplotlib", "python3-matplotlib")
+def test_plot_of_no_points_and_of_strange_heads(it, run, fonts, tmp_path, data):
     head = it.Head.new(0, vlrs=[it.Vlr(b"LASF_Projection", 34735, data)])
     it.Points.zeros(0, head).write(tmp_path / "b.laz")
     assert run("plot", tmp_path / "b.laz", "a.png")[0] == 0
