@@ -1,8 +1,10 @@
 """Planted wrong bodies: the command's table, what it keeps, and what it does where the planter fails."""
 import os
 import shutil
+import signal
 import subprocess
 import sys
+import time
 from pathlib import Path
 
 import pytest
@@ -13,6 +15,7 @@ from programs import TOP
 # the first one.
 PLANTER = r"""
 import os
+import time
 
 KINDS = "proves same refused elsewhere not-judged not-source not-run".split()
 GIVES_UP = ["constant"]
@@ -56,6 +59,7 @@ def chosen(crate, source, symbols, only):
 
 def plant(crate, copy, functions, proved, most):
     open(os.environ["LOG"], "a").write(f"planted {crate.name}\n")
+    time.sleep(60 if os.environ["SAID"] == "waits" else 0)
     if os.environ["SAID"] == "fault":
         raise ValueError("no such token")
     made = [(os.environ["SAID"], "0"), ("refused", "1"), ("not-source", "x")]
@@ -88,11 +92,14 @@ def tree(tmp_path: Path) -> Path:
     return tmp_path
 
 
+def environment(tree: Path, said: str) -> "dict[str, str]":
+    return {**os.environ, "SAID": said, "LOG": str(tree / "log"), "TMPDIR": str(tree / "tmp"),
+            "XDG_CACHE_HOME": str(tree / "cache"), "PATH": f"{tree / 'bin'}:{os.environ['PATH']}"}
+
+
 def planted(tree: Path, said: str, *words: str) -> "subprocess.CompletedProcess[str]":
-    environment = {**os.environ, "SAID": said, "LOG": str(tree / "log"), "TMPDIR": str(tree / "tmp"),
-                   "XDG_CACHE_HOME": str(tree / "cache"), "PATH": f"{tree / 'bin'}:{os.environ['PATH']}"}
-    run = subprocess.run([sys.executable, tree / ".ci" / "plant", *words], env=environment, cwd=tree, text=True,
-                         capture_output=True, timeout=60, check=False)
+    run = subprocess.run([sys.executable, tree / ".ci" / "plant", *words], env=environment(tree, said), cwd=tree,
+                         text=True, capture_output=True, timeout=60, check=False)
     assert list((tree / "tmp").iterdir()) == []
     return run
 
@@ -141,3 +148,18 @@ def test_a_planter_that_fails_is_said_and_not_kept(tree: Path) -> None:
 def test_a_crate_that_is_not_there_is_refused(tree: Path) -> None:
     run = planted(tree, "refused", "two")
     assert (run.returncode, run.stderr, log(tree)) == (1, "plant: there is no crate two\n", [])
+
+
+@pytest.mark.parametrize("number", [signal.SIGINT, signal.SIGTERM])
+def test_an_interrupt_ends_it_and_leaves_nothing(tree: Path, number: signal.Signals) -> None:
+    (tree / "crates.txt").write_text("one:\ntwo:\n")
+    shutil.copytree(tree / "crates" / "one", tree / "crates" / "two")
+    run = subprocess.Popen([sys.executable, tree / ".ci" / "plant", "--jobs", "1"], env=environment(tree, "waits"),
+                           cwd=tree, stdout=subprocess.DEVNULL, stderr=subprocess.DEVNULL)
+    end = time.monotonic() + 40
+    while "planted one" not in log(tree) and time.monotonic() < end:
+        time.sleep(0.05)
+    run.send_signal(number)
+    assert run.wait(timeout=30) == 128 + number
+    assert log(tree).count("planted one") == 1 and "planted two" not in log(tree)
+    assert list((tree / "tmp").iterdir()) == []
