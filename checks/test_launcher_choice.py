@@ -298,3 +298,10 @@ def test_release_that_is_not_the_one_it_says(other_release):
 def test_release_that_is_not_the_one_it_says_is_built_instead(other_release):
     found, said = other_release.ran("laszip", environment=other_release.with_rt())
     assert found == "own", said
+
+
+def test_checkout_without_the_program_s_crate_ends(checkout):
+    """It says what is missing, and looks for no folder for ever."""
+    shutil.rmtree(checkout.path("crates", "las"))
+    run = commands.quiet([checkout.path("las"), "laszip"], env=checkout.without_rt(), timeout=20)
+    assert run.returncode != 0 and b"las: " in run.stderr
