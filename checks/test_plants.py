@@ -60,6 +60,8 @@ def chosen(crate, source, symbols, only):
 def plant(crate, copy, functions, proved, most):
     open(os.environ["LOG"], "a").write(f"planted {crate.name}\n")
     time.sleep(60 if os.environ["SAID"] == "waits" else 0)
+    if os.environ["SAID"] == "ended":
+        os.kill(os.getpid(), 9)
     if os.environ["SAID"] == "fault":
         raise ValueError("no such token")
     made = [(os.environ["SAID"], "0"), ("refused", "1"), ("not-source", "x")]
@@ -143,6 +145,13 @@ def test_a_planter_that_fails_is_said_and_not_kept(tree: Path) -> None:
     assert "plant: one: ValueError('no such token')" in run.stderr
     assert "| `one`" not in run.stdout
     assert row(planted(tree, "refused")) == "| `one` | 2 | 0 | 0 | 0 | 0 |"
+
+
+def test_a_planter_that_is_killed_is_said_and_not_kept(tree: Path) -> None:
+    run = planted(tree, "ended", "--jobs", "16")
+    assert run.returncode == 1
+    assert "plant: one: its process was ended" in run.stderr
+    assert planted(tree, "refused", "--jobs", "16").returncode == 0
 
 
 def test_a_crate_that_is_not_there_is_refused(tree: Path) -> None:
