@@ -187,7 +187,8 @@ def test_verify_and_delete(tiles):
     assert not any(tiles.path(name).exists() for name in names)
 
 
-@pytest.mark.parametrize("words", [[], ["-verify"], ["-retries", "2"], ["-manifest", "sums"]], ids=" ".join)
+@pytest.mark.parametrize("words", [["-verify"], *(pytest.param(it, marks=pytest.mark.slow(seconds=3)) for it in (
+    [], ["-retries", "2"], ["-manifest", "sums"]))], ids=lambda it: " ".join(it))
 def test_each_draft_is_synced_before_it_gets_its_name_and_the_folder_after_it(tiles, words):
     needs.command("strace", "strace")
     tiles.path("again").write_text(f'exec strace -f -qq -y -e trace=fsync,renameat2 -o {tiles.path("calls")} "$@"\n')

@@ -154,7 +154,7 @@ def test_the_output_of_another_is_not_written_over(tiles):
 
 
 @pytest.mark.root
-@pytest.mark.parametrize("turn", range(3))
+@pytest.mark.parametrize("turn", [0, *(pytest.param(it, marks=pytest.mark.slow(seconds=3)) for it in (1, 2))])
 def test_resume_goes_on_after_a_power_cut(tiles, small_disk, turn):
     disk = small_disk(30_000_000, kind="ext4")
     wanted = tiles.make_all(40)
@@ -196,7 +196,8 @@ def test_a_kill_of_las_batch_alone_ends_its_jobs(tiles):
     assert (again.returncode, b"60 done, 0 not" in again.stderr) == (0, True), again.stderr
 
 
-@pytest.mark.parametrize("number", [signal.SIGINT, signal.SIGTERM, signal.SIGHUP])
+@pytest.mark.parametrize("number", [signal.SIGINT, *(pytest.param(it, marks=pytest.mark.slow(seconds=3)) for it in (
+    signal.SIGTERM, signal.SIGHUP))])
 def test_an_interrupt_says_one_line_and_leaves_no_draft(tiles, number):
     tiles.make("tiles/000.las")
     for at in range(1, 3000):

@@ -7,6 +7,8 @@ import pytest
 
 from programs import TOP
 
+pytestmark = pytest.mark.slow(seconds=3)
+
 
 def listed(top: Path) -> "subprocess.CompletedProcess[str]":
     return subprocess.run([top / ".ci" / "unpinned_constants"], stdout=subprocess.PIPE, stderr=subprocess.STDOUT,

@@ -27,6 +27,7 @@ def test_file_unpacks_to_its_plain_one(place, name):
     assert hashlib.sha256(place.read("a.las")).hexdigest() == SUMS[f"{name}.las"]
 
 
+@pytest.mark.slow(seconds=4)
 def test_script_makes_the_same_files_again(program, tmp_path):
     subprocess.run([sys.executable, "-B", FOLDER / "make_exchange.py", program, tmp_path], check=True)
     assert {path.name: path.read_bytes() for path in tmp_path.iterdir()} == {

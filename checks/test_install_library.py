@@ -16,7 +16,7 @@ from programs import TOP
 PREFIXES = ["prefix", "prefix with blanks"]
 
 
-@pytest.fixture(params=PREFIXES)
+@pytest.fixture(params=[pytest.param(it, marks=() if " " in it else pytest.mark.slow(seconds=2)) for it in PREFIXES])
 def trial(tmp_path: Path, request: pytest.FixtureRequest) -> Trial:
     needs.command("cc", "gcc libc6-dev")
     it = Trial(tmp_path, tmp_path / request.param)

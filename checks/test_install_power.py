@@ -13,7 +13,8 @@ from file_calls import Watcher
 from install_power import Store, Tree, TreeDisk, states, trees_after_cuts
 from install_trials import Trial, differences, final, in_memory
 
-UPGRADES = pytest.mark.parametrize("upgrades", [False, True], ids=["first", "upgrade"])
+UPGRADES = pytest.mark.parametrize("upgrades", [
+    False, pytest.param(True, marks=pytest.mark.slow(seconds=5))], ids=["first", "upgrade"])
 PART = 8  # states that a process is given at a time
 
 

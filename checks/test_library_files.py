@@ -198,6 +198,7 @@ def test_each_call_is_documented_as_doxygen_reads_it(tmp_path):
     assert [line for line in calls if not line.rstrip().endswith("*/")] == []
 
 
+@pytest.mark.slow(seconds=5)
 def test_cpp_filters_as_las2las(program, archive, tmp_path):
     needs.command("g++", "g++")
     sources = [it for name in SOURCES for it in (tmp_path / f"{name.stem}.o",)]

@@ -32,24 +32,23 @@ def made_by(script: str, tmp_path_factory: pytest.TempPathFactory, name: str = "
     return {name: folder / name for name in sorted(os.listdir(folder)) if name != "made"}
 
 
-@pytest.fixture(scope="module", params=["deb", "wheel", "tar"])
-def twice(request, tmp_path_factory):
-    """What a script makes in two folders."""
-    return [made_by(request.param, tmp_path_factory, name) for name in ("", " again")]
+SCRIPTS = ["deb", "wheel", "tar"]
 
 
 @pytest.mark.slow(seconds=6)
-def test_package_has_the_same_bytes_again(twice):
-    first, second = twice
+@pytest.mark.parametrize("script", SCRIPTS)
+def test_package_has_the_same_bytes_again(tmp_path_factory, script):
+    first, second = (made_by(script, tmp_path_factory, name) for name in ("", " again"))
     assert list(first) == list(second)
     for name in first:
         assert first[name].read_bytes() == second[name].read_bytes(), name
 
 
-def test_sums_are_those_of_the_packages(twice):
-    first, _ = twice
-    lines = dict(reversed(line.split("  ")) for line in first["SHA256SUMS"].read_text().splitlines())
-    assert lines == {name: hashlib.sha256(path.read_bytes()).hexdigest() for name, path in first.items()
+@pytest.mark.parametrize("script", SCRIPTS)
+def test_sums_are_those_of_the_packages(tmp_path_factory, script):
+    made = made_by(script, tmp_path_factory)
+    lines = dict(reversed(line.split("  ")) for line in made["SHA256SUMS"].read_text().splitlines())
+    assert lines == {name: hashlib.sha256(path.read_bytes()).hexdigest() for name, path in made.items()
                      if name != "SHA256SUMS"}
 
 

@@ -11,6 +11,8 @@ import pytest
 
 from programs import TOP
 
+pytestmark = pytest.mark.slow(seconds=2)
+
 # Stands in for the planter of the kit: it plants three bodies in each of two functions, and $SAID tells what comes of
 # the first one.
 PLANTER = r"""

@@ -223,6 +223,7 @@ def test_wheel_names_the_command(tmp_path):
         assert archive.read(entry).decode() == "[console_scripts]\nbalsamvise = balsamvise.__main__:main\n"
 
 
+@pytest.mark.slow(seconds=3)
 def test_archive_has_the_command(tmp_path):
     needs.module("numpy", "python3-numpy")
     subprocess.run([TOP / "release" / "tar", tmp_path], stdout=subprocess.DEVNULL, check=True)

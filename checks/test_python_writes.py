@@ -65,7 +65,7 @@ def trial(library: Path, tmp_path: Path) -> Trial:
     return Trial(tmp_path)
 
 
-@pytest.mark.parametrize("error", [ENOSPC, EIO])
+@pytest.mark.parametrize("error", [EIO, pytest.param(ENOSPC, marks=pytest.mark.slow(seconds=4))])
 def test_each_call_that_fails_leaves_the_older_file(trial: Trial, error: int) -> None:
     assert trial.write().returncode == 0
     count = len(trial.watcher.calls())
@@ -80,6 +80,7 @@ def test_each_call_that_fails_leaves_the_older_file(trial: Trial, error: int) ->
             assert done.returncode != 0 and b"OSError" in done.stderr, (at, done.stderr)
 
 
+@pytest.mark.slow(seconds=6)
 def test_a_disk_that_is_full_from_each_call_on_leaves_the_older_file(trial: Trial) -> None:
     """Nothing has room from a call to the end: the draft goes, the older file stays, and there is room again later."""
     assert trial.write().returncode == 0
@@ -99,7 +100,7 @@ def test_a_disk_that_is_full_from_each_call_on_leaves_the_older_file(trial: Tria
     assert failures > 4
 
 
-@pytest.mark.parametrize("how", ["before", "after"])
+@pytest.mark.parametrize("how", [pytest.param("before", marks=pytest.mark.slow(seconds=3)), "after"])
 def test_a_kill_at_each_call_leaves_a_whole_file(trial: Trial, how: str) -> None:
     assert trial.write().returncode == 0
     count = len(trial.watcher.calls())

@@ -155,6 +155,7 @@ STATES = {
 }
 
 
+@pytest.mark.slow(seconds=4)
 def test_release_that_is_made_anew_passes(tmp_path):
     """What is there of a build is packed, with what it was built from, the verdicts among it."""
     needs.command("ld", "binutils")

@@ -10,6 +10,7 @@ import small_files
 
 
 @pytest.mark.alone
+@pytest.mark.slow(seconds=4)
 @pytest.mark.parametrize("kind", ["Python", "C"])
 def test_reading_takes_little_beside_the_unpacking(tmp_path_factory, program, kind):
     """1.06 and 1.02 times as long on a busy machine, and 1.1 is the goal: the slack is for one that is busier still."""

@@ -78,6 +78,7 @@ def test_files_of_other_spellings():
     assert web.answer("unpackAll", names) == [sum_ for sum_, _ in lines]
 
 
+@pytest.mark.slow(seconds=8)
 def test_damaged_files_are_refused_for_the_cause_of_the_library(files, check, tmp_path):
     choose, names = random.Random(11), []
     for number in range(250):
