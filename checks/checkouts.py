@@ -128,10 +128,11 @@ class Checkout:
         return sum_of(good(["sha256sum", *names], cwd=self.path("c")).encode())
 
     def own(self, program: bytes = TELLER.encode()) -> Path:
-        """Puts a build of one's own there, of which nothing is noted."""
+        """Puts a build of one's own there, of which nothing is noted, with its object."""
         place = self.path("crates", "las", "out", "las")
         place.parent.mkdir(exist_ok=True)
-        place.write_bytes(program)
+        for name in ("las.o", "las"):
+            place.with_name(name).write_bytes(program)
         place.chmod(0o755)
         return place
 

@@ -64,6 +64,16 @@ def other_v2(at):
     at.own(b"other")
 
 
+def no_object(at):
+    built(at)
+    at.path("crates", "las", "out", "las.o").unlink()
+
+
+def other_object(at):
+    built(at)
+    at.path("crates", "las", "out", "las.o").write_bytes(b"other")
+
+
 def other_v3(at):
     built(at)
     at.path("teller").write_bytes(b"other")
@@ -137,6 +147,8 @@ STATES = {
     "a packed program that was changed": (changed_program, 1, "is not the file that release/BUILT_FROM names"),
     "an SPDX document of another release": (other_document, 1, "is not what release/spdx prints of the release"),
     "a release of these programs": (built, 0, ""),
+    "a build without its object": (no_object, 1, "there is no crates/las/out/las.o"),
+    "another object": (other_object, 1, "release/las-x86-64.o.gz is not what the proved sources give"),
     "another static program": (other_linked, 1, "las-aarch64.gz is not the program that the proved sources give"),
     "other packages": (other_packages, 0, "libc6-dev (1.0 there, "),
     "other packages and a program that does not pack": (
