@@ -147,7 +147,7 @@ STATES = {
     "a packed program that was changed": (changed_program, 1, "is not the file that release/BUILT_FROM names"),
     "an SPDX document of another release": (other_document, 1, "is not what release/spdx prints of the release"),
     "a release of these programs": (built, 0, ""),
-    "a build without its object": (no_object, 1, "there is no crates/las/out/las.o"),
+    "a build without its object": (no_object, 0, ""),
     "another object": (other_object, 1, "release/las-x86-64.o.gz is not what the proved sources give"),
     "another static program": (other_linked, 1, "las-aarch64.gz is not the program that the proved sources give"),
     "other packages": (other_packages, 0, "libc6-dev (1.0 there, "),
