@@ -4,8 +4,6 @@
 #[cfg(test)]
 mod header;
 #[cfg(test)]
-mod outside;
-#[cfg(test)]
 mod samples;
 #[cfg(test)]
 mod words;
