@@ -5,6 +5,7 @@ pub mod Drafts
 pub mod Faults
 pub mod Files
 pub mod Frames
+pub mod LeftDrafts
 pub mod Limits
 pub mod MemFiles
 pub mod MemSink

@@ -1,11 +1,21 @@
 -- What contracts see of a stream: what was put on it, known or not, and a count of faults.
-use Rattle.std.specs.Prelude.{◌≡◌, ◌⊎◌, ℕ, ◌≤◌, List, ◌++◌, take, Option, Some, None, is_some}
+use Rattle.std.specs.Prelude.{◌≡◌, ◌⊎◌, ℕ, ◌≤◌, List, ◌++◌, take, Option, Some, None, is_some, refl}
+use Rattle.std.specs.Coded.{Coded, code_by, coded×, coded_ℕ, coded_list, coded_option}
 use Rattle.las_outside.specs.Faults.{count_after}
 
 -- what was put on the stream, if that is known, and how often a call has failed
 pub record SinkView : Type 0 where
   pub written : Option (List ℕ)
   pub faults : ℕ
+
+abbrev pub sink_code : Coded SinkView
+sink_code =
+    code_by (Option (List ℕ) × ℕ) (coded× (coded_option (coded_list coded_ℕ)) coded_ℕ)
+    (λ s. (s.written, s.faults)) (λ p. record { written = p.0; faults = p.1 }) (λ _. refl)
+
+-- the stream if it does not tell what was put on it
+abbrev pub unknown : SinkView → SinkView
+unknown sink = record sink { written = None }
 
 -- what was written, with more at its end
 abbrev pub written_after : Option (List ℕ) → List ℕ → Option (List ℕ)

@@ -1,4 +1,7 @@
 //! An output that is written under a hidden name until it is whole.
+ghost use Rattle.std.specs.Prelude.{codes};
+ghost use Rattle.las_outside.specs.LeftDrafts.{SaysOfDraft, line_of_path};
+ghost use Rattle.las_outside.specs.Sinks.{Puts};
 
 use crate::file_identity::FileIdentity;
 use crate::target::Target;
@@ -63,7 +66,9 @@ impl DraftFile {
         rt: &R,
         keep: bool,
         err: &mut E,
-    ) {
+    )
+        ensures { SaysOfDraft keep (E.seen err.old) (E.seen err.new) }
+    {
         if keep {
             match self.keep(rt) {
                 Some(kept) => say(err, "kept: ", kept.as_str()),
@@ -103,6 +108,8 @@ impl DraftFile {
 }
 
 /// Puts a line on standard error. If that fails, the status still says what it is about.
-pub fn say<E: Sink>(err: &mut E, cause: &str, name: &str) {
+pub fn say<E: Sink>(err: &mut E, cause: &str, name: &str)
+    ensures { Puts (line_of_path cause.now name.now) (E.seen err.old) (E.seen err.new) }
+{
     let _ = put_all(err, &[cause.as_bytes(), name.as_bytes(), b"\n"]);
 }

@@ -1,6 +1,7 @@
 //! The outputs of a run that are written as drafts, in the order in which they were begun.
-ghost use Rattle.std.specs.Prelude.{◌≡◌, ◌+◌, ◌<◌, ◌≤◌, OnOk, OnErr};
-ghost use Rattle.las_outside.specs.Drafting.{no_drafts, only_moved};
+ghost use Rattle.std.specs.Prelude.{◌≡◌, ◌+◌, ◌-◌, ◌<◌, ◌≤◌, IsSome, OnOk, OnErr};
+ghost use Rattle.las_outside.specs.Drafting.{BeginsNone, BeginsOne, no_drafts, only_moved};
+ghost use Rattle.las_outside.specs.LeftDrafts.{SaysOfDrafts};
 
 use crate::Sink;
 use crate::draft_file::DraftFile;
@@ -24,14 +25,20 @@ pub struct DraftList {
 }
 
 impl Model for DraftList {
-    ghost use Rattle.std.specs.Prelude.{◌≤◌, vec_len};
+    ghost use Rattle.std.specs.Prelude.{◌≤◌, vec_capacity, vec_len};
     ghost use Rattle.las_outside.specs.Drafting.{Drafting, drafting_code};
 
     ghost Value = { Drafting };
 
     ghost coded = { drafting_code };
 
-    ghost view = { λ d. record { begun = vec_len d.drafts; synced = d.synced; moved = d.moved } };
+    ghost view = { λ d. record {
+      process = d.process;
+      begun = vec_len d.drafts;
+      room = vec_capacity d.drafts;
+      synced = d.synced;
+      moved = d.moved;
+    } };
 
     ghost invariant = { λ d. (d.moved ≤ d.synced) × (d.synced ≤ vec_len d.drafts) };
 }
@@ -39,7 +46,7 @@ impl Model for DraftList {
 impl DraftList {
     /// No draft yet.
     pub fn new(alloc: Global, process: Option<u32>) -> DraftList
-        ensures { result ≡ no_drafts }
+        ensures { result ≡ no_drafts process }
     {
         DraftList {
             process,
@@ -50,7 +57,9 @@ impl DraftList {
     }
 
     /// The number of the process, if outputs are written as drafts.
-    pub fn process(&self) -> Option<u32> {
+    pub fn process(&self) -> Option<u32>
+        ensures { result ≡ self.now.process }
+    {
         self.process
     }
 
@@ -83,7 +92,9 @@ impl DraftList {
     }
 
     /// The draft of an output.
-    pub fn of(&self, name: &str) -> Option<&DraftFile> {
+    pub fn of(&self, name: &str) -> Option<&DraftFile>
+        ensures { IsSome result → 0 < self.now.begun }
+    {
         self.drafts.iter().find(|draft| draft.name.as_str() == name)
     }
 
@@ -102,20 +113,19 @@ impl DraftList {
 
     /// Makes room for one draft more.
     pub fn make_room(&mut self) -> Result<(), AllocError>
-        ensures { self.new ≡ self.old }
+        ensures ok { OnOk result (self.old.begun < self.new.room) }
+        ensures drafts { BeginsNone self.old self.new }
     {
         self.drafts.reserve(1)
     }
 
-    /// Adds a draft that was begun.
-    pub fn add(&mut self, draft: DraftFile) -> Result<(), AllocError>
-        ensures ok { OnOk result (self.new ≡ record self.old { begun = self.old.begun + 1 }) }
-        ensures err { OnErr result (self.new ≡ self.old) }
+    /// Adds a draft that was begun. There is room for it.
+    pub fn add(&mut self, draft: DraftFile)
+        requires { self.old.begun < self.old.room }
+        ensures { BeginsOne self.old self.new }
     {
-        match self.drafts.push(draft) {
-            Ok(()) => Ok(()),
-            Err(_) => Err(AllocError),
-        }
+        let added = self.drafts.push(draft).is_ok();
+        prove!(added);
     }
 
     /// Notes that the first draft that was not synced is synced now.
@@ -172,12 +182,11 @@ impl DraftList {
         keep: bool,
         err: &mut E,
     )
-        ensures { self.new ≡ only_moved self.old }
+        ensures drafts { self.new ≡ only_moved self.old }
+        ensures said { SaysOfDrafts keep (self.old.begun - self.old.moved) (E.seen err.old) (E.seen err.new) }
     {
         for number in self.moved..self.drafts.len() {
-            if let Some(draft) = self.drafts.get(number) {
-                draft.put_away(rt, keep, err);
-            }
+            self.drafts[number].put_away(rt, keep, err);
         }
         self.drafts.truncate(self.moved);
         self.synced = self.moved;

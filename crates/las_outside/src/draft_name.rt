@@ -1,6 +1,6 @@
 //! The hidden names under which outputs are written.
 ghost use Rattle.std.specs.Prelude.{◌≡◌, ℕ, IfOk, take, string_bytes};
-ghost use Rattle.las_outside.specs.DraftNames.{IsDraftPath};
+ghost use Rattle.las_outside.specs.DraftNames.{IsDraftPath, IsKeptOf, draft_tag};
 
 use std::alloc::{AllocError, Global};
 
@@ -16,9 +16,9 @@ pub fn draft_path(
     process: u32,
     number: u16,
 ) -> Result<String, AllocError>
-    ensures { IfOk result (λ path. IsDraftPath prefix.now name.now (string_bytes path)) }
+    ensures { IfOk result (λ path. IsDraftPath prefix.now name.now (draft_tag process number) (string_bytes path)) }
 {
-    let tag = format!(in alloc; "{process}-{number:04x}")?;
+    let tag = tag_of(alloc, process, number)?;
     let mut path = String::from_str(alloc, prefix)?;
     path.push_str(".")?;
     path.push_str(cut(name))?;
@@ -30,8 +30,15 @@ pub fn draft_path(
 
 // The name, or as much of its beginning as is kept.
 fn cut(name: &str) -> &str
-    ensures { (n : ℕ) × (result.now ≡ take n name.now) }
+    ensures { (n : ℕ) × (IsKeptOf name.now n × (result.now ≡ take n name.now)) }
 {
     let end = name.floor_char_boundary(MOST_KEPT);
     &name[..end]
+}
+
+// What tells one draft of a name from another.
+fn tag_of(alloc: Global, process: u32, number: u16) -> Result<String, AllocError>
+    ensures { IfOk result (λ tag. string_bytes tag ≡ draft_tag process number) }
+{
+    format!(in alloc; "{process}-{number:04x}")
 }

@@ -1,6 +1,7 @@
 //! The handles of the files of a run: they stay open as long as the system allows, and closed ones are opened again.
 
 ghost use Rattle.std.specs.Prelude.{◌≡◌, ◌+◌, ◌<◌, OnOk, OnErr};
+ghost use Rattle.las_outside.specs.Drafting.{BeginsOne, HasDraft};
 
 use crate::draft_file::DraftFile;
 use crate::draft_list::DraftList;
@@ -160,7 +161,9 @@ impl Handles {
         drafts: &mut DraftList,
         process: u32,
         name: &str,
-    ) -> io::Result<()> {
+    ) -> io::Result<()>
+        ensures { OnOk result (HasDraft drafts.old drafts.new) }
+    {
         if drafts.of(name).is_some() {
             return self.get(rt, drafts, Access::Write, name)?.empty();
         }
@@ -299,11 +302,14 @@ impl Handles {
         name: &str,
         opened: OpenedFile,
         mut draft: DraftFile,
-    ) -> io::Result<()> {
+    ) -> io::Result<()>
+        requires { drafts.old.begun < drafts.old.room }
+        ensures { BeginsOne drafts.old drafts.new }
+    {
         if let Ok(state) = opened.state() {
             draft.identity = Some(state.identity);
         }
-        drafts.add(draft)?;
+        drafts.add(draft);
         let file = self.known.note_output(name, opened)?;
         self.keep(Access::Write, name, file, Some(0))
     }

@@ -1,9 +1,11 @@
 //! The files of the system.
-ghost use Rattle.std.specs.Prelude.{◌≡◌, ◌≢◌, ◌⊎◌, ◌≤◌, OnOk, OnErr};
-ghost use Rattle.las_outside.specs.Drafting.{all_moved, only_moved};
+ghost use Rattle.std.specs.Prelude.{◌≡◌, ◌≢◌, ◌⊎◌, ◌≤◌, ◌-◌, [], IsNone, IsOk, IsSome, None, Some, OnOk, OnErr};
+ghost use Rattle.las_outside.specs.Drafting.{HasDraft, all_moved, only_moved};
 ghost use Rattle.las_outside.specs.Faults.{count_after};
-ghost use Rattle.las_outside.specs.Outside.{with_read_fault, with_write_fault};
+ghost use Rattle.las_outside.specs.LeftDrafts.{SaysOfDrafts};
+ghost use Rattle.las_outside.specs.Outside.{Later, with_bytes, with_read_fault, with_write_fault};
 ghost use Rattle.las_outside.specs.RealFiles.{Publishes, untouched};
+ghost use Rattle.las_outside.specs.Sinks.{SinkView};
 
 use crate::draft_file::say;
 use crate::draft_list::DraftList;
@@ -56,20 +58,20 @@ impl<R: System<File = File> + Drop> Model for RealFiles<R> {
 impl<R: System<File = File> + AllocGlobal + Drop> RealFiles<R> {
     /// No file is open yet, and no call was made. Outputs are written under their own names.
     pub fn new(rt: R) -> RealFiles<R>
-        ensures { result ≡ untouched }
+        ensures { result ≡ untouched None }
     {
         RealFiles::with(rt, None)
     }
 
     /// The same, but outputs are written as drafts, whose names tell the number of this process.
     pub fn with_drafts(rt: R, process: u32) -> RealFiles<R>
-        ensures { result ≡ untouched }
+        ensures { result ≡ untouched (Some process) }
     {
         RealFiles::with(rt, Some(process))
     }
 
     fn with(rt: R, process: Option<u32>) -> RealFiles<R>
-        ensures { result ≡ untouched }
+        ensures { result ≡ untouched process }
     {
         let handles = Handles::new(rt.alloc());
         let drafts = DraftList::new(rt.alloc(), process);
@@ -102,6 +104,11 @@ impl<R: System<File = File> + AllocGlobal + Drop> RealFiles<R> {
         ensures fault { status ≡ 0 → result ≡ 4 → self.new.outside ≡ with_write_fault self.old.outside }
         ensures causes { status ≡ 0 → (result ≡ 0) ⊎ (result ≡ 3) ⊎ (result ≡ 4) }
         ensures none_left { result ≢ 0 → self.new.drafts ≡ only_moved self.new.drafts }
+        ensures silent { result ≡ 0 → E.seen err.new ≡ E.seen err.old }
+        ensures said { status ≢ 0
+            → SaysOfDrafts keep (self.old.drafts.begun - self.new.drafts.moved) (E.seen err.old) (E.seen err.new) }
+        ensures said_at_last { result ≢ 0 → (told : SinkView)
+            × SaysOfDrafts keep (self.old.drafts.begun - self.new.drafts.moved) told (E.seen err.new) }
     {
         let status = if status == 0 {
             self.publish(err)
@@ -116,7 +123,8 @@ impl<R: System<File = File> + AllocGlobal + Drop> RealFiles<R> {
 
     // Gives the drafts their outputs' names, if no input was changed, and answers the status.
     fn publish<E: Sink>(&mut self, err: &mut E) -> u8
-        ensures { Publishes result self.old self.new }
+        ensures publishes { Publishes result self.old self.new }
+        ensures silent { result ≡ 0 → E.seen err.new ≡ E.seen err.old }
     {
         if let Some(name) = self.handles.known().first_changed(&self.rt) {
             say(err, "read fault: ", name);
@@ -144,6 +152,7 @@ fn count_error<T>(outcome: io::Result<T>, faults: &mut u64) -> Result<T, Failed>
     ensures ok { OnOk result (faults.new ≡ faults.old) }
     ensures err { OnErr result (faults.new ≡ count_after faults.old 1) }
     ensures later { faults.old ≤ faults.new }
+    ensures outcome { OnOk result (IsOk outcome) }
 {
     match outcome {
         Ok(value) => Ok(value),
@@ -174,7 +183,15 @@ impl<R: System<File = File> + AllocGlobal + Drop> Files for RealFiles<R> {
         count_error(outcome, &mut self.read_faults)
     }
 
-    fn create(&mut self, name: &str) -> Result<(), Failed> {
+    /// As the outputs are written: as a draft, or under its own name.
+    fn create(&mut self, name: &str) -> Result<(), Failed>
+        ensures ok { OnOk result (self.new.outside ≡ with_bytes self.old.outside name.now []) }
+        ensures err { OnErr result ((self.new.outside ≡ with_write_fault self.old.outside)
+            ⊎ (self.new.outside ≡ with_write_fault (with_bytes self.old.outside name.now []))) }
+        ensures later { Later self.old.outside self.new.outside }
+        ensures draft { OnOk result (IsSome self.old.drafts.process → HasDraft self.old.drafts self.new.drafts) }
+        ensures plain { IsNone self.old.drafts.process → self.new.drafts ≡ self.old.drafts }
+    {
         let outcome = match self.drafts.process() {
             Some(process) => {
                 self.handles

@@ -1,12 +1,14 @@
 //! The process's standard output and standard error.
-ghost use Rattle.std.specs.Prelude.{◌≡◌, None};
+ghost use Rattle.std.specs.Prelude.{◌≡◌, ℕ, None, OnErr, OnOk, take};
+ghost use Rattle.std.specs.Io.KnownBytes.{Appends};
+ghost use Rattle.las_outside.specs.Sinks.{PutLater, unknown, with_fault, with_more};
 
 use crate::{Failed, Sink};
 use std::io::{Stderr, Stdout, Write};
 use std::marker::Model;
 
-/// Standard output or standard error, by the type of its stream. Contracts see its count of faults alone, and not what
-/// was put on it. Each error of std is a fault.
+/// Standard output or standard error, by the type of its stream. Contracts see its count of faults, and what was put on
+/// a stream that tells it, as a list of bytes does; those of the process tell nothing. Each error of std is a fault.
 #[derive(Drop)]
 pub struct RealSink<W: Write + Drop> {
     stream: W,
@@ -14,17 +16,19 @@ pub struct RealSink<W: Write + Drop> {
 }
 
 impl<W: Write + Drop> Model for RealSink<W> {
-    ghost use Rattle.std.specs.Prelude.{ℕ};
+    ghost use Rattle.las_outside.specs.Sinks.{SinkView, sink_code};
 
-    ghost Value = { ℕ };
+    ghost Value = { SinkView };
 
-    ghost view = { λ s. s.faults };
+    ghost coded = { sink_code };
+
+    ghost view = { λ s. record { written = W.contents s.stream; faults = s.faults } };
 }
 
 impl RealSink<Stdout> {
     /// Standard output.
     pub fn out(rt: &HostRuntime) -> RealSink<Stdout>
-        ensures { result ≡ 0 }
+        ensures { result ≡ record { written = None; faults = 0 } }
     {
         RealSink::on(rt.stdout())
     }
@@ -33,7 +37,7 @@ impl RealSink<Stdout> {
 impl RealSink<Stderr> {
     /// Standard error.
     pub fn err(rt: &HostRuntime) -> RealSink<Stderr>
-        ensures { result ≡ 0 }
+        ensures { result ≡ record { written = None; faults = 0 } }
     {
         RealSink::on(rt.stderr())
     }
@@ -42,16 +46,22 @@ impl RealSink<Stderr> {
 impl<W: Write + Drop> RealSink<W> {
     // A stream on which nothing was put yet.
     fn on(stream: W) -> RealSink<W>
-        ensures { result ≡ 0 }
+        ensures { result ≡ record { written = W.contents stream; faults = 0 } }
     {
         RealSink { stream, faults: 0 }
     }
 }
 
 impl<W: Write + Drop> Sink for RealSink<W> {
-    ghost seen = { λ s. record { written = None; faults = s } };
+    ghost seen = { unknown };
 
-    fn put(&mut self, bytes: &[u8]) -> Result<(), Failed> {
+    fn put(&mut self, bytes: &[u8]) -> Result<(), Failed>
+        ensures ok { OnOk result (unknown self.new ≡ with_more (unknown self.old) bytes.now) }
+        ensures err { OnErr result
+            ((n : ℕ) × (unknown self.new ≡ with_fault (with_more (unknown self.old) (take n bytes.now)))) }
+        ensures later { PutLater (unknown self.old) (unknown self.new) }
+        ensures written { OnOk result (Appends self.old.written self.new.written bytes.now) }
+    {
         match write_now(&mut self.stream, bytes) {
             Ok(()) => Ok(()),
             Err(_) => {
@@ -63,7 +73,9 @@ impl<W: Write + Drop> Sink for RealSink<W> {
 }
 
 // Writes bytes, and what a buffer may still hold of them.
-fn write_now<W: Write>(stream: &mut W, bytes: &[u8]) -> std::io::Result<()> {
+fn write_now<W: Write>(stream: &mut W, bytes: &[u8]) -> std::io::Result<()>
+    ensures { OnOk result (Appends (W.contents stream.old) (W.contents stream.new) bytes.now) }
+{
     stream.write_all(bytes)?;
     stream.flush()
 }

@@ -91,7 +91,8 @@ row_of Input = once (codes "-i") Name Setting
 row_of Inputs =
     record { name = codes "-i"; values = Name; rivals = codes "-i" ∷ []; before = 31; means = Setting }
 row_of Output = once (codes "-o") Name Setting
-row_of ChunkSize = one_of (codes "-chunk_size" ∷ copying) (codes "-chunk_size") (Number MIN_CHUNK_POINTS MAX_CHUNK_POINTS)
+row_of ChunkSize =
+    one_of (codes "-chunk_size" ∷ copying) (codes "-chunk_size") (Number MIN_CHUNK_POINTS MAX_CHUNK_POINTS)
 row_of Cores = once (codes "-cores") (Number 1 8) Setting
 row_of Olas = one_of (forms ++ copying) (codes "-olas") Nothing
 row_of Olaz = one_of forms (codes "-olaz") Nothing
