@@ -10,7 +10,7 @@ import sys
 import tempfile
 import threading
 from pathlib import Path
-from typing import Dict, Iterator, List, NamedTuple, Sequence, Set, Tuple
+from typing import Dict, Iterator, List, Mapping, NamedTuple, Optional, Sequence, Set, Tuple
 
 TOP = Path(__file__).resolve().parent.parent
 PARTS = ("src", "specs", "proofs")
@@ -154,16 +154,16 @@ class Lab:
             self.sums[crate, judge] = made.hexdigest()
         return self.sums[crate, judge]
 
-    def run(self, words: Sequence[str], cwd: Path) -> "Tuple[int, str, float]":
-        """Runs rattle, and returns its status, what it said, and the processor seconds."""
+    def run(self, words: Sequence[str], cwd: Path, program: Optional[Path] = None) -> "Tuple[int, str, float]":
+        """Runs rattle or another program, and returns its status, what it said, and the processor seconds."""
         # no check outlives this command
         guard = ["setpriv", "--pdeathsig", "KILL"] if shutil.which("setpriv") else []
         times = cwd / "seconds"
-        rattle = [*guard, str(self.kit / "bin" / "rattle"), *words]
+        line = [*guard, str(program or self.kit / "bin" / "rattle"), *words]
         with self.alone:
             if self.stopping:
                 raise KeyboardInterrupt
-            run = subprocess.Popen([*guard, sys.executable, "-ISc", TIMED, str(times), *rattle], cwd=cwd, text=True,
+            run = subprocess.Popen([*guard, sys.executable, "-ISc", TIMED, str(times), *line], cwd=cwd, text=True,
                                    stdin=subprocess.DEVNULL, stdout=subprocess.PIPE, stderr=subprocess.STDOUT,
                                    errors="replace")
             self.running.add(run)
@@ -202,18 +202,19 @@ class Lab:
         """Whether other crates can stand on a crate."""
         return not self.crates[name].is_static and not self.is_program(name)
 
-    def words(self, name: str) -> List[str]:
-        """The words for a check of a crate, as rt gives them."""
+    def words(self, name: str, changed: Optional[Mapping[str, Path]] = None) -> List[str]:
+        """The words for a check of a crate, as rt gives them. It may stand on changed libraries."""
         crate, rlibs = self.crates[name], self.kit / "rlibs"
+        libraries = {it: self.rlib(it) for it in below(self.crates, name)}
+        libraries.update(changed or {})
         words = ["--crate-name", name, "src/main.rt" if self.is_program(name) else "src/lib.rt"]
         for it in ("std", *[it for it in crate.direct if it not in self.crates]):
             words += ["--extern", f"{it}={rlibs / it}.rlib"]
         words += ["-L", f"dependency={rlibs}"]
         for it in crate.direct:
             if it in self.crates:
-                words += ["--extern", f"{it}={self.rlib(it)}"]
-        for it in below(self.crates, name):
-            words += ["-L", f"dependency={self.rlib(it).parent}"]
+                words += ["--extern", f"{it}={libraries[it]}"]
+        words += [word for library in libraries.values() for word in ("-L", f"dependency={library.parent}")]
         words += ["--antt-project", f"{self.kit}/rattle/logic/antt-project.json"]
         words += ["--logic-built", f"{self.kit}/logic_built", "--jobs", "1", "--links", f"{name}="]
         return words + (["--crate-type", "staticlib"] if crate.is_static else [])
@@ -237,9 +238,10 @@ class Lab:
     def is_in(self, tree: Path, name: str) -> bool:
         """Whether a tree has the library of a crate, of the sources here, and made after their last change."""
         library = tree / "crates" / name / "out" / "rlib" / f"{name}.rlib"
-        if not (library / "format").is_file():
-            return False
-        made = library.stat().st_mtime
+        return (library / "format").is_file() and self.is_of_these(tree, name, library.stat().st_mtime)
+
+    def is_of_these(self, tree: Path, name: str, made: float) -> bool:
+        """Whether what was made of a crate in a tree then is of the sources here, and made after their last change."""
         for crate in (*below(self.crates, name), name):
             here, there = sources_of(TOP, crate), sources_of(tree, crate)
             if here.keys() != there.keys() or any(path.stat().st_mtime > made for path in there.values()):

@@ -1,4 +1,6 @@
-"""Wrong bodies, of the gate and beside it: each can be applied, and what tries them fails if one is not refused."""
+"""Wrong bodies, of the gate, beside it, and those that tests have to find: each can be applied, and what tries them
+fails if one is not refused, or not found.
+"""
 import fcntl
 import os
 import re
@@ -15,6 +17,7 @@ from programs import TOP
 
 GATE = sorted(TOP.glob("edits/gate/*/*.edit"))
 EDITS = sorted([*GATE, *(path for path in TOP.glob("edits/*/*.edit") if path.parent.name != "gate")])
+TESTED = sorted(TOP.glob("edits/tests/*/*.edit"))
 # Crates without a contract of their own: a program of one call, and a crate of one law.
 BARE = {"las", "laz_copied"}
 
@@ -37,10 +40,10 @@ def pairs(edit: Path) -> "list[tuple[str, str, str]]":
     return found
 
 
-@pytest.mark.parametrize("crate", sorted({crate_of(edit) for edit in EDITS}))
+@pytest.mark.parametrize("crate", sorted({crate_of(edit) for edit in [*EDITS, *TESTED]}))
 def test_each_edit_of_a_crate_can_be_applied(crate: str) -> None:
     wrong = []
-    for edit in (edit for edit in EDITS if crate_of(edit) == crate):
+    for edit in (edit for edit in [*EDITS, *TESTED] if crate_of(edit) == crate):
         changes = pairs(edit)
         if not changes:
             wrong.append(f"{edit.name}: no change")
@@ -54,7 +57,7 @@ def test_each_edit_of_a_crate_can_be_applied(crate: str) -> None:
 
 
 def test_names_tell_edits_of_a_crate_apart() -> None:
-    names = [(crate_of(edit), edit.stem) for edit in EDITS]
+    names = [(crate_of(edit), edit.stem) for edit in [*EDITS, *TESTED]]
     assert len(names) == len(set(names))
     assert all(re.fullmatch(r"[a-z][a-z0-9_]*[a-z0-9]", name) for _, name in names)
 
@@ -116,7 +119,7 @@ def tree(tmp_path: Path) -> Path:
         (tmp_path / name).write_text(text)
     (tmp_path / ".ci").mkdir()
     (tmp_path / "tmp").mkdir()
-    for name in ("edits", "scratch.py"):
+    for name in ("edits", "edit_results.py", "edit_tests.py", "scratch.py"):
         shutil.copy2(TOP / ".ci" / name, tmp_path / ".ci")
     for name in ("bin/rt", "kit/bin/rattle"):
         (tmp_path / name).chmod(0o755)
@@ -267,3 +270,170 @@ def test_what_a_killed_run_left_is_removed_unless_it_is_held(tree: Path) -> None
     begun(tree, "answers").communicate(timeout=60)
     assert [path.name for path in (tree / "tmp").iterdir()] == ["balsamvise-of-another"]
     assert (tree / "tmp" / "balsamvise-of-another" / "one-1").is_dir()
+
+
+def test_an_edit_of_a_program_that_a_test_has_to_find_names_a_case() -> None:
+    crates = TOP / "crates"
+    for edit in (it for it in TESTED if (crates / crate_of(it) / "src" / "main.rt").is_file()):
+        case = re.search(r"^test: (checks/\w+\.py)::(\w+)$", edit.read_text(), re.M)
+        assert case and f"def {case[2]}(" in (TOP / case[1]).read_text()
+
+
+# Edits that tests have to find
+
+PROVER = r"""#!/bin/sh
+# proves all sources but one that says `refused`, and what it makes has the sources and those of the libraries
+for word; do
+    case $before in --crate-name) name=$word ;; --extern) from="$from ${word#*=}/format" ;; esac
+    before=$word
+done
+echo "build $name" >>"$LOG"
+[ "${WAITS-}" != "$name" ] || { sleep 60 & wait; }
+if grep -q refused src/*.rt; then
+    echo "note: src/lib.rt:1:8: it is not proved that what the function ensures holds (\`it\`)"
+    printf 'logic=not-proved\nrattle build: nothing was built\n'
+    exit 1
+fi
+! grep -q unknown src/*.rt || { echo "src/lib.rt:1:8: error[unknown-name]: no h"; exit 1; }
+case $word in
+*.rlib) mkdir -p "$word"; cat src/*.rt >"$word/format" ;;
+*) cat src/*.rt >"$word"; for file in $from; do [ ! -f "$file" ] || cat "$file" >>"$word"; done ;;
+esac
+"""
+LINKER = r"""#!/bin/sh
+for word; do
+    [ "$before" != -o ] || program=$word
+    case $word in *.o) made=$word ;; esac
+    before=$word
+done
+cp "$made" "$program"
+"""
+TESTS = r"""#!/bin/sh
+for word; do program=$word; done
+echo run >>"$LOG"
+[ -z "$(ls)" ] || exit 3
+! grep -q wrong "$program" || { echo "test all::scripts ... FAILED"; exit 101; }
+echo "test all::scripts ... ok"
+"""
+SUITE = r"""#!/bin/sh
+for word; do [ "$before" != -k ] || name=$word; before=$word; done
+echo "case $name" >>"$LOG"
+! grep -q wrong "$word" || exit 1
+! grep -q killed "$word" || exit 3
+"""
+
+
+@pytest.fixture
+def built(tree: Path) -> Path:
+    """The checkout with a crate of tests, a program, an edit of each that tests find, and a kit that builds."""
+    for name, text in [("crates.txt", "one:\ntests_one: one\nupper: one\n"),
+                       ("crates/tests_one/src/lib.rt", "fn scripts() {}\n"),
+                       ("edits/tests/one/four.edit", "file: src/lib.rt\nold: g(1)\nnew: wrong()\n"),
+                       ("edits/tests/upper/five.edit",
+                        "test: checks/test_it.py::test_it\nfile: src/main.rt\nold: g(1)\nnew: wrong()\n"),
+                       ("checks/test_it.py", "def test_it():\n    pass\n"), ("check", SUITE),
+                       ("kit/bin/rattle", PROVER), ("kit/bin/rattle-link", LINKER), ("kit/bin/rattle-test", TESTS)]:
+        (tree / name).parent.mkdir(parents=True, exist_ok=True)
+        (tree / name).write_text(text)
+    (tree / "crates" / "upper" / "src" / "lib.rt").rename(tree / "crates" / "upper" / "src" / "main.rt")
+    for name in ("check", "kit/bin/rattle", "kit/bin/rattle-link", "kit/bin/rattle-test"):
+        (tree / name).chmod(0o755)
+    return tree
+
+
+def of_one(new: str) -> str:
+    return f"file: src/lib.rt\nold: g(1)\nnew: {new}\n"
+
+
+def test_an_edit_is_told_with_the_test_that_finds_it(built: Path) -> None:
+    status, rows, _ = tried(built, "", "--tests")
+    assert status == 0
+    assert rows == [["`one`", "`four`", "`tests_one: all::scripts`"],
+                    ["`upper`", "`five`", "`checks/test_it.py: test_it`"]]
+
+
+def test_the_crate_as_it_stands_and_its_tests_come_first(built: Path) -> None:
+    assert tried(built, "", "--tests", "one")[0] == 0
+    assert log(built) == ["build one", "build tests_one", "run"] * 2
+
+
+@pytest.mark.parametrize("new, place, said", [
+    ("g(3)", "not found", "it is proved, and each test passes with it"),
+    ("refused()", "refused", "the prover refuses it, so it belongs in edits/one: note: src/lib.rt:1:8: it is not proved"),
+    ("unknown()", "bad edit", "it did not reach the prover: src/lib.rt:1:8: error[unknown-name]: no h"),
+    ("g( 1 )", "changes nothing", "the new text is the old one"),
+])
+def test_an_edit_that_no_test_finds_fails(built: Path, new: str, place: str, said: str) -> None:
+    (built / "edits" / "tests" / "one" / "four.edit").write_text(of_one(new))
+    status, rows, err = tried(built, "", "--tests", "one")
+    assert (status, rows) == (1, [["`one`", "`four`", place]])
+    assert f"edits: one/four: {place}: {said}" in err
+
+
+def test_an_edit_whose_old_text_is_not_there_fails(built: Path) -> None:
+    (built / "edits" / "tests" / "one" / "four.edit").write_text("file: src/lib.rt\nold: g(4)\nnew: wrong()\n")
+    assert tried(built, "", "--tests", "one")[:2] == (1, [["`one`", "`four`", "bad edit"]])
+    assert log(built) == []
+
+
+def test_nothing_is_found_by_tests_that_fail_without_an_edit(built: Path) -> None:
+    (built / "crates" / "tests_one" / "src" / "lib.rt").write_text("fn scripts() { wrong() }\n")
+    status, rows, err = tried(built, "", "--tests", "one")
+    assert (status, rows) == (1, [["`one`", "`four`", "not tried"]])
+    assert "edits: one/four: not tried: the tests do not pass as it stands" in err
+
+
+@pytest.mark.parametrize("new, place", [("g(3)", "not found"), ("killed()", "not tried"), ("refused()", "refused")])
+def test_an_edit_of_a_program_that_its_case_does_not_find_fails(built: Path, new: str, place: str) -> None:
+    edit = built / "edits" / "tests" / "upper" / "five.edit"
+    edit.write_text(edit.read_text().replace("wrong()", new))
+    assert tried(built, "", "--tests", "upper/five")[:2] == (1, [["`upper`", "`five`", place]])
+
+
+@pytest.mark.parametrize("test", ["", "test: checks/test_it.py::test_other\n", "test: checks/none.py::test_it\n"])
+def test_an_edit_of_a_program_names_a_case_that_is_there(built: Path, test: str) -> None:
+    edit = built / "edits" / "tests" / "upper" / "five.edit"
+    edit.write_text(edit.read_text().replace("test: checks/test_it.py::test_it\n", test))
+    assert tried(built, "", "--tests", "upper")[:2] == (1, [["`upper`", "`five`", "not tried"]])
+
+
+def test_the_program_as_it_stands_is_taken_from_the_tree_and_its_case_has_to_pass(built: Path) -> None:
+    program = built / "crates" / "upper" / "out" / "upper"
+    program.parent.mkdir()
+    program.write_text("wrong")
+    status, _, err = tried(built, "", "--tests", "upper")
+    assert status == 1
+    assert "upper/five: not tried: its case does not pass on the program as it stands" in err
+    program.write_text("right")
+    assert tried(built, "", "--tests", "upper")[0] == 0
+    assert log(built) == ["build one", "case test_it", "build one", "case test_it", "build upper", "case test_it"]
+
+
+def test_a_found_edit_is_not_tried_again_until_a_source_changes(built: Path) -> None:
+    first = tried(built, "", "--tests")
+    number = len(log(built))
+    assert tried(built, "", "--tests") == (*first[:2], "")
+    assert len(log(built)) == number
+    (built / "crates" / "tests_one" / "src" / "lib.rt").write_text("fn scripts() { g() }\n")
+    assert tried(built, "", "--tests")[0] == 0
+    assert log(built)[number:] == ["build one", "build tests_one", "run"] * 2
+    assert tried(built, "", "--tests", "--anew", "one")[0] == 0
+    assert len(log(built)) == number + 12
+
+
+def test_tests_and_the_gate_exclude_each_other(built: Path) -> None:
+    assert tried(built, "", "--tests", "--gate") == (1, [], "edits: --gate and --tests exclude each other\n")
+    assert tried(built, "", "--tests", "one/two") == (1, [], "edits: there is no edit one/two\n")
+
+
+@pytest.mark.parametrize("number", [signal.SIGINT, signal.SIGTERM])
+@pytest.mark.parametrize("name", ["one", "tests_one"])
+def test_nothing_is_left_after_an_interrupt_of_a_build(built: Path, number: signal.Signals, name: str) -> None:
+    run = begun(built, "", "--tests", "one", WAITS=name)
+    end = time.monotonic() + 30
+    while f"build {name}" not in log(built) and time.monotonic() < end:
+        time.sleep(0.05)
+    run.send_signal(number)
+    run.communicate(timeout=30)
+    assert run.returncode == 128 + number
+    assert list((built / "tmp").iterdir()) == []
