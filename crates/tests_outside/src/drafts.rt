@@ -198,23 +198,24 @@ remove_folder draft_link/far
 remove_folder draft_link
 ",
     "\
-# What can't get its name is told, with those that have theirs, and a folder that came there meanwhile stays.
-folder draft_folder
-create draft_folder/first
-create draft_folder/second
-create draft_folder/third
-append draft_folder/first first
-folder draft_folder/second
+# What can't get its name is told, with those that have theirs, and a link that came there meanwhile stays.
+folder draft_late
+create draft_late/first
+create draft_late/second
+create draft_late/third
+append draft_late/first first
+soft_link none draft_late/second
 end remove 0 4
-says write fault: draft_folder/second
-says written: draft_folder/first
-says not written: draft_folder/second
-says not written: draft_folder/third
-holds draft_folder/first first
-missing draft_folder/third
-remove draft_folder/first
-remove_folder draft_folder/second
-remove_folder draft_folder
+says write fault: draft_late/second
+says written: draft_late/first
+says not written: draft_late/second
+says not written: draft_late/third
+holds draft_late/first first
+link draft_late/second none
+missing draft_late/third
+remove draft_late/first
+remove draft_late/second
+remove_folder draft_late
 ",
     "\
 # A file that took the place of a draft is not moved, nor removed, and no output gets its name.
