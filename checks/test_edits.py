@@ -281,6 +281,8 @@ def test_an_edit_of_a_program_that_a_test_has_to_find_names_a_case() -> None:
 
 # Edits that tests have to find
 
+SLOW = pytest.mark.slow(seconds=2)
+
 PROVER = r"""#!/bin/sh
 # proves all sources but one that says `refused`, and what it makes has the sources and those of the libraries
 for word; do
@@ -345,6 +347,7 @@ def of_one(new: str) -> str:
     return f"file: src/lib.rt\nold: g(1)\nnew: {new}\n"
 
 
+@SLOW
 def test_an_edit_is_told_with_the_test_that_finds_it(built: Path) -> None:
     status, rows, _ = tried(built, "", "--tests")
     assert status == 0
@@ -352,14 +355,16 @@ def test_an_edit_is_told_with_the_test_that_finds_it(built: Path) -> None:
                     ["`upper`", "`five`", "`checks/test_it.py: test_it`"]]
 
 
+@SLOW
 def test_the_crate_as_it_stands_and_its_tests_come_first(built: Path) -> None:
     assert tried(built, "", "--tests", "one")[0] == 0
     assert log(built) == ["build one", "build tests_one", "run"] * 2
 
 
+@SLOW
 @pytest.mark.parametrize("new, place, said", [
     ("g(3)", "not found", "it is proved, and each test passes with it"),
-    ("refused()", "refused", "the prover refuses it, so it belongs in edits/one: note: src/lib.rt:1:8: it is not proved"),
+    ("refused()", "refused", "the prover refuses it, so it belongs in edits/one: note: src/lib.rt:1:8: it is not"),
     ("unknown()", "bad edit", "it did not reach the prover: src/lib.rt:1:8: error[unknown-name]: no h"),
     ("g( 1 )", "changes nothing", "the new text is the old one"),
 ])
@@ -370,12 +375,14 @@ def test_an_edit_that_no_test_finds_fails(built: Path, new: str, place: str, sai
     assert f"edits: one/four: {place}: {said}" in err
 
 
+@SLOW
 def test_an_edit_whose_old_text_is_not_there_fails(built: Path) -> None:
     (built / "edits" / "tests" / "one" / "four.edit").write_text("file: src/lib.rt\nold: g(4)\nnew: wrong()\n")
     assert tried(built, "", "--tests", "one")[:2] == (1, [["`one`", "`four`", "bad edit"]])
     assert log(built) == []
 
 
+@SLOW
 def test_nothing_is_found_by_tests_that_fail_without_an_edit(built: Path) -> None:
     (built / "crates" / "tests_one" / "src" / "lib.rt").write_text("fn scripts() { wrong() }\n")
     status, rows, err = tried(built, "", "--tests", "one")
@@ -383,6 +390,7 @@ def test_nothing_is_found_by_tests_that_fail_without_an_edit(built: Path) -> Non
     assert "edits: one/four: not tried: the tests do not pass as it stands" in err
 
 
+@SLOW
 @pytest.mark.parametrize("new, place", [("g(3)", "not found"), ("killed()", "not tried"), ("refused()", "refused")])
 def test_an_edit_of_a_program_that_its_case_does_not_find_fails(built: Path, new: str, place: str) -> None:
     edit = built / "edits" / "tests" / "upper" / "five.edit"
@@ -390,6 +398,7 @@ def test_an_edit_of_a_program_that_its_case_does_not_find_fails(built: Path, new
     assert tried(built, "", "--tests", "upper/five")[:2] == (1, [["`upper`", "`five`", place]])
 
 
+@SLOW
 @pytest.mark.parametrize("test", ["", "test: checks/test_it.py::test_other\n", "test: checks/none.py::test_it\n"])
 def test_an_edit_of_a_program_names_a_case_that_is_there(built: Path, test: str) -> None:
     edit = built / "edits" / "tests" / "upper" / "five.edit"
@@ -397,6 +406,7 @@ def test_an_edit_of_a_program_names_a_case_that_is_there(built: Path, test: str)
     assert tried(built, "", "--tests", "upper")[:2] == (1, [["`upper`", "`five`", "not tried"]])
 
 
+@SLOW
 def test_the_program_as_it_stands_is_taken_from_the_tree_and_its_case_has_to_pass(built: Path) -> None:
     program = built / "crates" / "upper" / "out" / "upper"
     program.parent.mkdir()
@@ -409,6 +419,7 @@ def test_the_program_as_it_stands_is_taken_from_the_tree_and_its_case_has_to_pas
     assert log(built) == ["build one", "case test_it", "build one", "case test_it", "build upper", "case test_it"]
 
 
+@SLOW
 def test_a_found_edit_is_not_tried_again_until_a_source_changes(built: Path) -> None:
     first = tried(built, "", "--tests")
     number = len(log(built))
@@ -421,11 +432,13 @@ def test_a_found_edit_is_not_tried_again_until_a_source_changes(built: Path) -> 
     assert len(log(built)) == number + 12
 
 
+@SLOW
 def test_tests_and_the_gate_exclude_each_other(built: Path) -> None:
     assert tried(built, "", "--tests", "--gate") == (1, [], "edits: --gate and --tests exclude each other\n")
     assert tried(built, "", "--tests", "one/two") == (1, [], "edits: there is no edit one/two\n")
 
 
+@SLOW
 @pytest.mark.parametrize("number", [signal.SIGINT, signal.SIGTERM])
 @pytest.mark.parametrize("name", ["one", "tests_one"])
 def test_nothing_is_left_after_an_interrupt_of_a_build(built: Path, number: signal.Signals, name: str) -> None:
