@@ -4,7 +4,7 @@ use std::alloc::Global;
 use std::env::{self, Env, FillError};
 use std::{io, str};
 
-// The words of the system, with a word that is not UTF-8 as an empty one.
+// The words of the system, with a word that is not UTF-8 as an empty one. It has no variables.
 #[derive(Drop)]
 struct TextWords<'a, R>(&'a R);
 
@@ -17,12 +17,12 @@ impl<R: Env> Env for TextWords<'_, R> {
         }
     }
 
-    fn var(&self, name: &str, buf: &mut [u8]) -> Result<usize, FillError> {
-        self.0.var(name, buf)
+    fn var(&self, _name: &str, _buf: &mut [u8]) -> Result<usize, FillError> {
+        Err(FillError::NotPresent)
     }
 
-    fn var_at(&self, i: usize, buf: &mut [u8]) -> Result<usize, FillError> {
-        self.0.var_at(i, buf)
+    fn var_at(&self, _i: usize, _buf: &mut [u8]) -> Result<usize, FillError> {
+        Err(FillError::NotPresent)
     }
 }
 

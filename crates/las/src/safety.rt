@@ -17,8 +17,8 @@ pub enum Safety {
     Keep,
 }
 
-/// What the environment asks for. Nothing and `0` ask for plain outputs, `keep` for drafts that are kept, and every other
-/// value for drafts.
+/// What the environment asks for. Nothing and `0` ask for plain outputs, `keep` for drafts that are kept, and every
+/// other value for drafts.
 pub fn asked<R: Env>(rt: &R) -> Safety {
     let mut value = [0u8; 8];
     match rt.var(VARIABLE, &mut value) {
