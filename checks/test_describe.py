@@ -230,6 +230,7 @@ def cause_by_opening(package, path):
     return None
 
 
+@pytest.mark.slow(seconds=4)
 def test_spoilt_heads(package, describe, valid, tmp_path):
     paths = made.spoilt(tmp_path, 2000)
     run = describe(".", "--json")

@@ -15,6 +15,8 @@ import pytest
 
 from programs import TOP
 
+pytestmark = pytest.mark.slow(seconds=1)
+
 GATE = sorted(TOP.glob("edits/gate/*/*.edit"))
 EDITS = sorted([*GATE, *(path for path in TOP.glob("edits/*/*.edit") if path.parent.name != "gate")])
 TESTED = sorted(TOP.glob("edits/tests/*/*.edit"))

@@ -186,6 +186,7 @@ def test_a_disk_that_is_full_at_any_place(tmp_path: Path, small_disk, step: int)
 
 
 @pytest.mark.root
+@pytest.mark.slow(seconds=3)
 def test_an_upgrade_on_a_full_disk_leaves_what_is_installed(tmp_path: Path, small_disk) -> None:
     disk = small_disk(64_000_000)
     tmp_path.chmod(0o755)

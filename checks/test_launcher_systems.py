@@ -283,6 +283,7 @@ def test_alpines_layout(small_system):
 
 
 @pytest.mark.root
+@pytest.mark.slow(seconds=5)
 def test_archive_in_alpines_layout(small_system, tmp_path_factory):
     """The archive for x86_64 runs where busybox's tar has unpacked it, and needs nothing of a clone."""
     shutil.rmtree(small_system / "las")

@@ -146,6 +146,7 @@ def test_sample_is_of_the_points_in_their_order(it, run, tile, tmp_path, count):
     assert (tmp_path / "again.laz").read_bytes() == (tmp_path / "1.laz").read_bytes()
 
 
+@pytest.mark.slow(seconds=3)
 def test_sample_over_many_parts_takes_each_point_alike(it, tmp_path, monkeypatch):
     import numpy as np
     from balsamvise import sample

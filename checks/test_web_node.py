@@ -92,6 +92,7 @@ def test_damaged_files_are_refused_for_the_cause_of_the_library(files, check, tm
     assert {"BadChunk", "Table", "TablePointer"} <= causes, causes
 
 
+@pytest.mark.slow(seconds=3)
 def test_3400_chunks_are_answered_as_by_the_shared_library(tmp_path_factory):
     library = runs_of_coder.shared_library(library_files.library(tmp_path_factory) / "liblaz.so")
     cases, wanted = runs_of_coder.cases(library, 3400)
