@@ -40,15 +40,17 @@ def facts(package):
     return importlib.import_module("balsamvise.facts").read_facts
 
 
+def described(library, folder, *words, **options):
+    """A run of the command in a folder, with both streams kept."""
+    environment = {**os.environ, "BALSAMVISE_LIBRARY": library, "PYTHONPATH": str(TOP / "python" / "src"),
+                   "PYTHONDONTWRITEBYTECODE": "1", **options.pop("more", {})}
+    return commands.quiet([sys.executable, "-m", "balsamvise", "describe", *words],
+                          env=environment, cwd=options.pop("cwd", folder), **options)
+
+
 @pytest.fixture
 def describe(library, tmp_path):
-    """A run of the command in a folder, with both streams kept."""
-    def run(*words, **options):
-        environment = {**os.environ, "BALSAMVISE_LIBRARY": library, "PYTHONPATH": str(TOP / "python" / "src"),
-                       "PYTHONDONTWRITEBYTECODE": "1", **options.pop("more", {})}
-        return commands.quiet([sys.executable, "-m", "balsamvise", "describe", *words],
-                              env=environment, cwd=options.pop("cwd", tmp_path), **options)
-    return run
+    return lambda *words, **options: described(library, tmp_path, *words, **options)
 
 
 @pytest.fixture(scope="module")
@@ -65,15 +67,42 @@ def whole(*files):
     return {"balsamvise_describe": 1, "files": list(files)}
 
 
+def refused(name, cause):
+    number, word = cause.split()
+    return {"name": name, "refused": {"number": int(number), "cause": word}}
+
+
+@pytest.fixture(scope="module")
+def refusals(library, tmp_path_factory):
+    """What one run says of a file for each cause, and its line on standard error, by the cause."""
+    folder = tmp_path_factory.mktemp("causes")
+    for at, data in enumerate(made.CAUSES.values()):
+        (folder / f"{at}.laz").write_bytes(data)
+    run = described(library, folder, *(f"{at}.laz" for at in range(len(made.CAUSES))), "--json")
+    assert run.returncode == 1
+    found, lines = json.loads(run.stdout), run.stderr.decode().splitlines()
+    assert found == whole(*found["files"])
+    assert len(found["files"]) == len(lines) == len(made.CAUSES)
+    return dict(zip(made.CAUSES, zip(found["files"], lines)))
+
+
 @pytest.mark.parametrize("cause", made.CAUSES)
-def test_cause(describe, valid, place, tmp_path, cause):
+def test_cause(refusals, valid, place, tmp_path, cause):
+    said, line = refusals[cause]
+    name = f"{list(made.CAUSES).index(cause)}.laz"
+    assert said == refused(name, cause)
+    assert line == f"refused: {name}: {cause}"
+    assert valid(whole(said)) == []
+    (tmp_path / "a.laz").write_bytes(made.CAUSES[cause])
+    runs.ended(place.las("lasinfo", "-i", tmp_path / "a.laz"), 5, f"refused: {tmp_path}/a.laz: {cause}\n".encode())
+
+
+@pytest.mark.parametrize("cause", ["1 Short", "19 Table"])
+def test_one_file_that_is_refused(describe, tmp_path, cause):
     (tmp_path / "a.laz").write_bytes(made.CAUSES[cause])
     run = describe("a.laz", "--json")
     assert (run.returncode, run.stderr) == (1, f"refused: a.laz: {cause}\n".encode())
-    number, name = cause.split()
-    assert json.loads(run.stdout) == whole({"name": "a.laz", "refused": {"number": int(number), "cause": name}})
-    assert valid(json.loads(run.stdout)) == []
-    runs.ended(place.las("lasinfo", "-i", tmp_path / "a.laz"), 5, f"refused: {tmp_path}/a.laz: {cause}\n".encode())
+    assert json.loads(run.stdout) == whole(refused("a.laz", cause))
 
 
 def test_all_that_a_head_says(facts, tmp_path, valid):
