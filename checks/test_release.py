@@ -1,5 +1,6 @@
 """The release step of the gate refuses a stale release, another program, and no release."""
 import gzip
+import os
 import re
 
 import pytest
@@ -24,8 +25,11 @@ def changed_program(at):
     at.path("release", "las-x86-64-v3.gz").write_bytes(gzip.compress(b"other"))
 
 
-# What these give (the real ones need proved crates); a program of aarch64 is run as the others.
-BUILD_FOR = '#!/bin/sh\ncp "$TELLER" "$2" && echo "logic=proved target=$1"\n'
+# What these give (the real ones need proved crates); a program of aarch64 is run as the others. Each build notes the
+# folder for what is checked, and fails beside another one.
+BUILD_FOR = ('#!/bin/sh\n[ "$1" = --checked ] && mkdir -p "$2" && mkdir "$2/now" || exit 1\n'
+             'echo "$2" >>"$BUILDS"\nchecked=$2\nshift 2\n'
+             'cp "$TELLER" "$2" && echo "logic=proved target=$1" && rmdir "$checked/now"\n')
 LINK = '#!/bin/sh\ncp "$GIVES" "$3"\n'
 LIBRARY = ('#!/bin/sh\n[ "$3" = --keep ] && echo module >"$4" && shift 4\n[ $# = 1 ] || exit 1\nset -- 1 2 "$1"\n'
            'mkdir -p "$3/glibc-hwcaps/x86-64-v3" "$3/aarch64"\n'
@@ -188,7 +192,13 @@ def test_release_that_is_made_anew_passes(tmp_path):
     assert lines["verdict:las:aarch64"] == "logic=proved target=aarch64"
     assert lines["verdict:laz_c:x86-64-v3"] == "logic=proved target=x86-64-v3"
     assert {path.name for path in at.path("release").glob("*.gz")} == {f"{name}.gz" for name in PACKED}
+    made_in = at.builds.read_text().splitlines()
     assert "give" in commands.good([at.path("release", "make"), "--check"], env=at.with_rt())
+    checked_in = at.builds.read_text().splitlines()[len(made_in):]
+    assert (len(made_in), len(checked_in)) == (3, 2)
+    # a folder of each run, which is gone after it
+    assert (len({*made_in}), len({*checked_in}), len({*made_in, *checked_in})) == (1, 1, 2)
+    assert not any(os.path.exists(path) for path in (*made_in, *checked_in))
     assert at.path("crates", "laz_c", "out", "laz.bc").read_text() == "module\n"
 
 
