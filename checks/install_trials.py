@@ -53,7 +53,9 @@ class Trial:
     """A small checkout with this repository's `install`, a prefix, and a count of the steps."""
 
     def __init__(self, folder: Path, prefix: Optional[Path] = None, whole: bool = True) -> None:
-        """Without `whole` the package `batch` has one file alone, which the others would be installed like."""
+        """Without `whole` the package `batch` has one file alone, and there are completions for one shell and one
+        manual page: the others would be installed like these.
+        """
         self.folder = folder / "checkout"
         self.prefix = prefix or folder / "prefix"
         self.stage: Optional[Path] = None
@@ -84,6 +86,8 @@ class Trial:
         if not whole:
             for path in (self.folder / "batch").glob("[a-z]*.py"):
                 path.unlink()
+            for name in ("las.zsh", "las.fish", "las-batch.1"):
+                (self.folder / "help" / name).unlink()
         (self.folder / "crates" / "las" / "src").mkdir(parents=True)
         (self.folder / "crates" / "las" / "src" / "lib.rt").write_text("fn main() {}\n")
         (self.folder / "crates.txt").write_text("las:\n")

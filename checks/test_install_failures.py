@@ -2,13 +2,15 @@
 another run mends it, and what it put there can be taken away.
 """
 import os
+import pickle
 import subprocess
 from collections.abc import Iterator
 from pathlib import Path
-from typing import Union
+from typing import NamedTuple, Union
 
 import pytest
 
+import shared
 from file_calls import Call, Watcher
 from install_power import Store
 from install_trials import Trial, differences, final, in_memory
@@ -21,35 +23,75 @@ SHARE = [pytest.param(SOME, marks=pytest.mark.slow(seconds=5)),
          *(pytest.param(share, marks=pytest.mark.huge) for share in range(SHARES))]
 
 
-def some_of(steps: "list[str]", how: str) -> "list[int]":
-    """A step of every third command by which `install` changes files: each command is met by one or two of the ways to
-    end, and each way has its steps in another part of the run.
+def some_of(steps: "list[str]", how: str, turn: int) -> "list[int]":
+    """A step of every fifth command by which `install` changes files: each command is met by one of the ways to end, by
+    another one in each turn, and each way has its steps in another part of the run.
     """
-    way = [*HOWS, FULL].index(how)
+    ways = [*HOWS, FULL]
+    way = ways.index(how)
     found = set()
-    for name in list(dict.fromkeys(steps))[way % 3::3]:
+    for name in list(dict.fromkeys(steps))[(way + turn) % len(ways)::len(ways)]:
         places = [at for at, one in enumerate(steps, 1) if one == name]
         found.add(places[way * (len(places) - 1) // len(HOWS)])
     return sorted(found)
 
 
-def chosen(steps: "list[str]", how: str, share: Union[int, str]) -> "list[int]":
+def chosen(steps: "list[str]", how: str, share: Union[int, str], turn: int = 0) -> "list[int]":
     """The steps of a share of them. Each way to end takes every third one, so that each step is met by one or two. A
     full disk takes every second one, since of two steps in a row no more than one is a copy.
     """
     if isinstance(share, str):
-        return some_of(steps, how)
+        return some_of(steps, how, turn)
     mine = range(1, len(steps) + 1, 2) if how == FULL else range(1 + HOWS.index(how) % 3, len(steps) + 1, 3)
     return list(mine)[share::SHARES]
 
 
 @pytest.fixture
 def trial(tmp_path: Path, request: pytest.FixtureRequest) -> "Iterator[Trial]":
-    """All files are installed beside the gate, and one of las-batch's in the gate, where the others are of its kind."""
+    """All files are installed beside the gate, and one of each kind in the gate."""
     with in_memory(tmp_path) as folder:
-        folder.chmod(0o755)
-        it = Trial(folder, whole=request.node.get_closest_marker("huge") is not None)
-        yield it.staged(folder / "stage")
+        yield staged(folder, request)
+
+
+def staged(folder: Path, request: pytest.FixtureRequest) -> Trial:
+    folder.chmod(0o755)
+    return Trial(folder, whole=has_all(request)).staged(folder / "stage")
+
+
+def has_all(request: pytest.FixtureRequest) -> bool:
+    return request.node.get_closest_marker("huge") is not None
+
+
+class Known(NamedTuple):
+    """What installs leave that nothing disturbs, and the command of each step."""
+
+    first: "dict[str, object]"  # the tree of version 1
+    second: "dict[str, object]"
+    steps: "list[str]"  # of a first install
+    upgrade: "list[str]"
+    removal: "list[str]"
+
+
+@pytest.fixture
+def known(tmp_path_factory: pytest.TempPathFactory, request: pytest.FixtureRequest) -> Known:
+    """It is the same for each case, so that it is found once in a run of the suite."""
+    def make(place: Path) -> None:
+        with in_memory(place) as folder:
+            trial = staged(folder, request)
+            first, steps = whole(trial), trial.steps()
+            trial.release(2)
+            upgrade = trial.steps()
+            assert trial.install("--remove").returncode == 0
+            second = whole(trial)
+            trial.release(1)
+            assert trial.install().returncode == 0
+            found = Known(first, second, steps, upgrade, trial.steps("--remove"))
+        (place / "known").write_bytes(pickle.dumps(found))
+
+    place = shared.once(tmp_path_factory, f"installs of {'all' if has_all(request) else 'few'} files", make)
+    found = pickle.loads((place / "known").read_bytes())
+    assert isinstance(found, Known)
+    return found
 
 
 def same(trial: Trial, wanted: "dict[str, object]") -> "list[str]":
@@ -74,14 +116,12 @@ def whole(trial: Trial) -> "dict[str, object]":
 
 @pytest.mark.parametrize("share", SHARE)
 @pytest.mark.parametrize("how", [*HOWS, FULL])
-def test_a_first_install_that_ends_at_a_step_is_mended_by_the_next(trial: Trial, how: str,
+def test_a_first_install_that_ends_at_a_step_is_mended_by_the_next(trial: Trial, known: Known, how: str,
                                                                    share: Union[int, str]) -> None:
-    wanted = whole(trial)
-    steps = trial.steps()
-    assert trial.install("--remove").returncode == 0
-    assert len(steps) > 20
+    wanted = known.first
+    assert len(known.steps) > 20
     failures = 0
-    for at in chosen(steps, how, share):
+    for at in chosen(known.steps, how, share):
         ended = trial.install(at=at, how=how)
         left = final(trial.tree())
         assert left.items() <= final(wanted).items(), (at, differences(left, final(wanted)))
@@ -98,18 +138,13 @@ def test_a_first_install_that_ends_at_a_step_is_mended_by_the_next(trial: Trial,
 
 @pytest.mark.parametrize("share", SHARE)
 @pytest.mark.parametrize("how", [*HOWS, FULL])
-def test_an_upgrade_that_ends_at_a_step_leaves_a_program_that_runs(trial: Trial, how: str,
+def test_an_upgrade_that_ends_at_a_step_leaves_a_program_that_runs(trial: Trial, known: Known, how: str,
                                                                    share: Union[int, str]) -> None:
-    trial.release(2)
-    wanted = whole(trial)
-    trial.release(1)
-    assert trial.install().returncode == 0
-    first = trial.tree()
+    first, wanted = known.first, known.second
     store = Store(trial.temporary / "store")
     store.add(first)
     trial.release(2)
-    steps = trial.steps()
-    for at in chosen(steps, how, share):
+    for at in chosen(known.upgrade, how, share, turn=2):
         store.write(trial.prefix, first)
         trial.install(at=at, how=how)
         assert trial.version() in ("version 1", "version 2"), at
@@ -121,13 +156,11 @@ def test_an_upgrade_that_ends_at_a_step_leaves_a_program_that_runs(trial: Trial,
     assert store.was_written() == []
 
 
-@pytest.mark.parametrize("every", [pytest.param(54, marks=pytest.mark.slow(seconds=4)),
+@pytest.mark.parametrize("every", [pytest.param(80, marks=pytest.mark.slow(seconds=3)),
                                    pytest.param(8, marks=pytest.mark.huge)])
 @pytest.mark.parametrize("how", HOWS)
-def test_an_install_that_was_cut_off_can_be_removed(trial: Trial, how: str, every: int) -> None:
-    steps = trial.steps()
-    assert trial.install("--remove").returncode == 0
-    for at in range(1 + HOWS.index(how), len(steps) + 1, every):
+def test_an_install_that_was_cut_off_can_be_removed(trial: Trial, known: Known, how: str, every: int) -> None:
+    for at in range(1 + HOWS.index(how), len(known.steps) + 1, every):
         trial.install(at=at, how=how)
         removed = trial.install("--remove")
         left = {name for name, kept in trial.tree().items() if kept is not None}
@@ -137,12 +170,11 @@ def test_an_install_that_was_cut_off_can_be_removed(trial: Trial, how: str, ever
         assert trial.install("--remove").returncode == 0
 
 
-@pytest.mark.slow(seconds=3)
+@pytest.mark.parametrize("every", [pytest.param(36, marks=pytest.mark.slow(seconds=3)),
+                                   pytest.param(8, marks=pytest.mark.huge)])
 @pytest.mark.parametrize("how", [*HOWS, FULL])
-def test_a_removal_that_ends_at_a_step_can_be_repeated(trial: Trial, how: str) -> None:
-    assert trial.install().returncode == 0
-    steps = trial.steps("--remove")
-    for at in range(1 + [*HOWS, FULL].index(how), len(steps) + 1, 24):
+def test_a_removal_that_ends_at_a_step_can_be_repeated(trial: Trial, known: Known, how: str, every: int) -> None:
+    for at in range(1 + [*HOWS, FULL].index(how), len(known.removal) + 1, every):
         assert trial.install().returncode == 0
         (trial.prefix / "bin" / "mine").write_bytes(b"mine")
         trial.install("--remove", at=at, how=how)

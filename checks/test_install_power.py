@@ -116,7 +116,7 @@ def leaves_whole_files(cuts: Cuts) -> None:
 @pytest.mark.slow
 @UPGRADES
 def test_an_install_after_some_power_cuts(cuts: Cuts) -> None:
-    wrong, read = cuts.tried(cuts.states[::max(1, len(cuts.states) // 10)])
+    wrong, read = cuts.tried(cuts.states[::max(1, len(cuts.states) // 6)])
     assert wrong == []
     assert read > 0
 
