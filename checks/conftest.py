@@ -106,7 +106,7 @@ def pytest_collection_modifyitems(config, items):
     config.hook.pytest_deselected(items=[item for item in items if item not in chosen])
     items[:] = dealt_out(kept, getattr(config, "workerinput", {}).get("workercount", 1))
     for item in items:
-        if "slow" in item.keywords and not config.getoption("--all"):
+        if "slow" in item.keywords and not config.getoption("--all") and not config.getoption("--huge"):
             item.add_marker(pytest.mark.skip(reason="slow: ./check --all runs it"))
 
 

@@ -40,8 +40,9 @@ def kept_on_hosts(server):
             if any(file.endswith((".las", ".laz", ".part")) for file in files)]
 
 
-@pytest.mark.parametrize("words", [[], ["-ship"], ["-ship", "-verify"], ["-verify", "-delete"],
-                                   ["-ship", "-verify", "-delete"]], ids=" ".join)
+@pytest.mark.parametrize("words", [
+    [], *(pytest.param(it, marks=pytest.mark.huge) for it in (["-ship"], ["-ship", "-verify"])), ["-verify", "-delete"],
+    ["-ship", "-verify", "-delete"]], ids=" ".join)
 def test_two_hosts(tiles, server, words):
     run = tiles.batch("laszip", "-odir", "out", "-hosts", "hosts", *words, *tiles.names(0, 8),
                       environment=server.environment)

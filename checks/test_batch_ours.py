@@ -172,8 +172,7 @@ def no_base(path):
 
 
 def another_folder(path):
-    other = path.parent.parent.parent / "other" / ".las-batch"
-    shutil.copy(other / "state.db", path)
+    shutil.copy(path.parent.parent.parent / "other" / ".las-batch" / "state.db", path)
 
 
 @pytest.mark.parametrize("resume", [False, pytest.param(True, marks=pytest.mark.slow(seconds=3))],
@@ -188,7 +187,7 @@ def test_a_state_that_is_none_is_refused_by_name(tiles, change, resume):
     wanted = [f"tiles/{at:03}.las" for at in range(60)]
     for name in wanted[1:]:
         os.link(tiles.path("tiles/000.las"), tiles.path(name))
-    for folder in "out", "other":
+    for folder in ("out", "other") if change is another_folder else ("out",):
         tiles.batch("laszip", "-odir", folder, *wanted)
     state = tiles.path("out/.las-batch/state.db")
     change(state)
@@ -227,10 +226,11 @@ class Mounted:
                               check=False, timeout=120, **options)
 
 
-@pytest.mark.root
-@pytest.mark.parametrize("kind", ["nfs", *(pytest.param(it, marks=pytest.mark.slow)
-                                           for it in ("nfs4", "cifs", "9p", "lustre", "ceph", "fuse.sshfs"))])
-def test_no_state_lies_on_a_file_server(tiles, kind):
+KINDS = ("nfs4", "cifs", "9p", "lustre", "ceph", "fuse.sshfs")
+
+
+def refused_on_a_server(tiles, kind):
+    """Runs las-batch into a folder on a file server, which is refused, and returns what runs it there."""
     tiles.make("tiles/a.las")
     tiles.path("a server").mkdir()
     server = Mounted(tiles, "a server", kind)
@@ -238,6 +238,20 @@ def test_no_state_lies_on_a_file_server(tiles, kind):
     ended(run, 2, f"the state can't lie on a file server ({kind}): -state FOLDER names a folder of this".encode())
     assert tiles.outputs("a server/out") == {}
     assert not tiles.path("a server/out/.las-batch/state.db").exists()
+    return server
+
+
+@pytest.mark.root
+@pytest.mark.slow
+@pytest.mark.parametrize("kind", KINDS)
+def test_kind_of_file_server_that_is_known(tiles, kind):
+    refused_on_a_server(tiles, kind)
+
+
+@pytest.mark.root
+@pytest.mark.parametrize("kind", ["nfs", *(pytest.param(it, marks=pytest.mark.huge) for it in KINDS)])
+def test_no_state_lies_on_a_file_server(tiles, kind):
+    server = refused_on_a_server(tiles, kind)
     ended(server.batch("laszip", "-odir", "out", "-state", "a server/state", "tiles/a.las"), 2, b"a file server")
     words = "-odir", "a server/out", "-state", "state"
     ended(server.batch("laszip", *words, "tiles/a.las"), 0, b"1 done, 0 not")
@@ -294,5 +308,11 @@ def test_100_000_inputs_are_planned_in_seconds_and_300_mb(tiles):
         else:
             os.link(folder / "first.las", folder / f"a_tile_with_a_name_{at}.las")
     tiles.command("python3", f'exec {sys.executable} "$@"')  # the one that runs the checks
-    least = min(planned(tiles, f"out{turn}") for turn in range(3))
-    assert (least[0] < 8, least[1] < 300_000) == (True, True), least
+
+    def fits(took, peak):
+        return took < 8 and peak < 300_000
+
+    found = [planned(tiles, "out0")]
+    while not fits(*found[-1]) and len(found) < 3:
+        found.append(planned(tiles, f"out{len(found)}"))
+    assert fits(*found[-1]), found

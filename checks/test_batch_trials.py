@@ -1,6 +1,6 @@
 """File calls of las-batch in turn: one fails, the process is killed there, or an input is replaced before it.
 
-In the gate these are some of each kind of call that gives a name or takes one away, spread over the run; `--huge` tries
+In the gate these are the first and the last of each kind of call that gives a name or takes one away; `--huge` tries
 each of those, what follows each, and every other call.
 """
 import errno
@@ -33,13 +33,18 @@ def trials(program, tmp_path, library):
     return Trials(tmp_path, program, library)
 
 
-def spread(calls, names, count=3):
-    """The first call of each of these names, the last one, and others between them: `count` of each name."""
+def spread(calls, names, count=2, last=False):
+    """The first call of each of these names, the last one, and others between them: `count` of each name. If that is
+    one, it is the first, or the last.
+    """
     chosen = set()
     for name in names:
         places = [at for at, one in enumerate(calls, 1) if one == name]
         assert places, (name, calls)
-        chosen |= {places[round(at * (len(places) - 1) / (count - 1))] for at in range(count)}
+        if count == 1:
+            chosen.add(places[-1 if last else 0])
+        else:
+            chosen |= {places[round(at * (len(places) - 1) / (count - 1))] for at in range(count)}
     return sorted(chosen)
 
 
@@ -63,7 +68,7 @@ def each(trials, part, after=0):
 
 
 every_part = pytest.mark.parametrize("part", [
-    pytest.param(SPREAD, marks=pytest.mark.slow(seconds=12)),
+    pytest.param(SPREAD, marks=pytest.mark.slow(seconds=9)),
     *(pytest.param(at, marks=pytest.mark.huge) for at in range(PARTS + 1))])
 
 
@@ -100,13 +105,15 @@ def full_disk(trials, chosen, calls, **fault):
 stays_full = pytest.mark.parametrize("fault", [{}, {"stays": 1}], ids=["once", "from then on"])
 
 
-@pytest.mark.parametrize("count", [pytest.param(2, marks=pytest.mark.slow(seconds=15)),
+@pytest.mark.parametrize("count", [pytest.param(1, marks=pytest.mark.slow(seconds=9)),
                                    pytest.param(4, marks=pytest.mark.huge)])
 @stays_full
 def test_a_full_disk_at_some_calls(trials, fault, count):
-    """The first and the last call of each name that takes room; beside the gate, two between them too."""
+    """The first call of each name that takes room, or the last one if the disk stays full; beside the gate four of
+    each, in both ways.
+    """
     calls = trials.calls()
-    full_disk(trials, spread(calls, TAKING, count), calls, **fault)
+    full_disk(trials, spread(calls, TAKING, count, last=bool(fault)), calls, **fault)
 
 
 @pytest.mark.huge
@@ -156,7 +163,7 @@ def each_of_a_plain_run(trials, part):
         yield at, f"at call {at} of {len(calls)}, {calls[at - 1]}"
 
 
-some_or_each = pytest.mark.parametrize("part", [pytest.param(SPREAD, marks=pytest.mark.slow(seconds=8)),
+some_or_each = pytest.mark.parametrize("part", [pytest.param(SPREAD, marks=pytest.mark.slow(seconds=6)),
                                                 pytest.param("each", marks=pytest.mark.huge)])
 
 
@@ -197,9 +204,11 @@ def cut_off_twice(trials, first, fault, chosen):
         trials.ends_well(when)
 
 
-@pytest.mark.slow(seconds=7)
-@pytest.mark.parametrize("fault", ["kill", "error", "full disk"])
-@pytest.mark.parametrize("first", [4, 9])
+@pytest.mark.parametrize("first, fault", [
+    *(pytest.param(first, fault, marks=pytest.mark.slow(seconds=7))
+      for first, fault in ((4, "kill"), (9, "error"), (4, "full disk"))),
+    *(pytest.param(first, fault, marks=pytest.mark.huge)
+      for first, fault in ((9, "kill"), (4, "error"), (9, "full disk")))])
 def test_a_resume_that_is_cut_off_at_some_calls(trials, first, fault):
     """Each sixth of the calls by which `-resume` gives names and takes them away."""
     cut_off_twice(trials, first, fault,
