@@ -1,10 +1,5 @@
 """No source of the repository has what a linter warns of. The sources are found, so that a new one is tried too."""
-import ast
-import collections
-import fcntl
 import os
-import shutil
-from pathlib import Path
 
 import pytest
 
@@ -16,15 +11,9 @@ from programs import TOP
 SHELL = sources.scripts("sh", "bash")
 PYTHON = sources.scripts("python3")
 C = [path for path in sources.files() if path.suffix == ".c"]
-# what mypy takes as one program: the sources, and the folder of their modules
-PROGRAMS: dict[str, tuple[list[Path], str]] = {
-    "checks": ([path for path in PYTHON if path.parts[0] == "checks"], "checks"),
-    "the Python package": ([path for path in PYTHON if path.parts[0] == "python"], "python/src"),
-    "the plugin for QGIS": ([path for path in PYTHON if path.parts[0] == "qgis"], "qgis"),
-}
-for found in PYTHON:
-    if found.parts[0] not in ("checks", "python", "qgis", ".ci"):
-        PROGRAMS.setdefault(str(found.parent), ([], str(found.parent)))[0].append(found)
+# what mypy takes as one program: the plugin for QGIS has a package of the same name as the Python package
+PROGRAMS = {"the plugin for QGIS": [path for path in PYTHON if path.parts[0] == "qgis"],
+            "all others": [path for path in PYTHON if path.parts[0] not in ("qgis", ".ci")]}
 
 
 @pytest.mark.parametrize("kind, name", [
@@ -58,45 +47,17 @@ def test_flake8(folder):
           *[path for path in PYTHON if str(path.parent) == folder])
 
 
-def imports_of(path):
-    """The modules that a source imports, with the names of the packages that they are in."""
-    for node in ast.walk(ast.parse((TOP / path).read_text())):
-        if isinstance(node, ast.Import):
-            yield from (alias.name for alias in node.names)
-        elif isinstance(node, ast.ImportFrom) and node.level == 0 and node.module:
-            yield node.module
-
-
-def mypy(cache, *files, cwd):
-    clean("mypy", "--config-file", TOP / "checks" / "mypy.ini", "--ignore-missing-imports", "--scripts-are-modules",
-          "--cache-dir", cache, *files, cwd=cwd)
-
-
-@pytest.fixture(scope="module")
-def known_modules(tmp_path_factory):
-    """What mypy keeps of the modules that many sources import, which is read once for all workers of the suite."""
-    needs.command("mypy", "mypy")
-    folder = tmp_path_factory.getbasetemp()
-    shared = (folder.parent if "PYTEST_XDIST_WORKER" in os.environ else folder) / "mypy"
-    shared.mkdir(exist_ok=True)
-    with open(shared / "lock", "w", encoding="utf-8") as lock:
-        fcntl.flock(lock, fcntl.LOCK_EX)
-        if not (shared / "done").exists():
-            count = collections.Counter(name for files, _ in PROGRAMS.values()
-                                        for name in {name for path in files for name in imports_of(path)})
-            lines = [f"import {name}\n" for name in count if count[name] > 2]
-            (shared / "modules.py").write_text("".join(lines))
-            mypy(shared / "cache", "modules.py", cwd=shared)
-            (shared / "done").touch()
-    return shared / "cache"
-
-
-@pytest.mark.parametrize("name", [pytest.param(name, marks=pytest.mark.slow(seconds=10 if name == "checks" else 2))
+@pytest.mark.parametrize("name", [pytest.param(name, marks=pytest.mark.slow(seconds=30 if "all" in name else 3))
                                   for name in PROGRAMS])
-def test_mypy(name, tmp_path, known_modules):
-    files, folder = PROGRAMS[name]
-    shutil.copytree(known_modules, tmp_path / "cache")
-    mypy(tmp_path / "cache", *[TOP / path for path in files], cwd=TOP / folder)
+def test_mypy(name, tmp_path):
+    """Modules are found in the folder of each source, or in that of its package."""
+    needs.command("mypy", "mypy")
+    files = PROGRAMS[name]
+    folders = {"python": "python/src", "qgis": "qgis"}
+    found = dict.fromkeys(str(TOP / folders.get(path.parts[0], path.parent)) for path in files)
+    clean("mypy", "--config-file", TOP / "checks" / "mypy.ini", "--ignore-missing-imports", "--scripts-are-modules",
+          "--cache-dir", tmp_path / "cache", *[TOP / path for path in files], cwd=tmp_path,
+          env={**os.environ, "MYPYPATH": os.pathsep.join(found)})
 
 
 @pytest.mark.parametrize("file", C, ids=str)
