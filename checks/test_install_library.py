@@ -16,7 +16,7 @@ from programs import TOP
 PREFIXES = ["prefix", "prefix with blanks"]
 
 
-@pytest.fixture(params=[pytest.param(it, marks=() if " " in it else pytest.mark.slow(seconds=2)) for it in PREFIXES])
+@pytest.fixture(params=[pytest.param(it, marks=() if " " in it else pytest.mark.huge) for it in PREFIXES])
 def trial(tmp_path: Path, request: pytest.FixtureRequest) -> Trial:
     needs.command("cc", "gcc libc6-dev")
     it = Trial(tmp_path, tmp_path / request.param)
@@ -79,7 +79,7 @@ def test_a_program_linked_by_the_static_flags_needs_no_library(trial: Trial) -> 
     prints_heights(done)
 
 
-@pytest.mark.parametrize("target", ["laz::laz", "laz::laz_static"])
+@pytest.mark.parametrize("target", ["laz::laz", pytest.param("laz::laz_static", marks=pytest.mark.slow(seconds=2))])
 def test_a_program_built_by_cmake_starts(trial: Trial, target: str) -> None:
     needs.command("cmake", "cmake")
     needs.command("make", "make")

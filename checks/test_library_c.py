@@ -104,8 +104,8 @@ def answer_of(program, name):
     return " ".join([words[0]] + words[2:]), None
 
 
-ROUNDS = [*(pytest.param(at, marks=pytest.mark.slow(seconds=20)) for at in (1, 2)),
-          *(pytest.param(at, marks=pytest.mark.huge) for at in (3, 4))]
+ROUNDS = [pytest.param(1, marks=pytest.mark.slow(seconds=1)),
+          *(pytest.param(at, marks=pytest.mark.huge) for at in (2, 3, 4))]
 
 
 @pytest.mark.parametrize("round_", ROUNDS, ids=lambda number: f"round {number}")

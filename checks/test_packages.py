@@ -35,8 +35,8 @@ def made_by(script: str, tmp_path_factory: pytest.TempPathFactory, name: str = "
 SCRIPTS = ["deb", "wheel", "tar"]
 
 
-@pytest.mark.slow(seconds=6)
-@pytest.mark.parametrize("script", SCRIPTS)
+@pytest.mark.parametrize("script", [
+    pytest.param(it, marks=pytest.mark.huge if it == "deb" else pytest.mark.slow(seconds=4)) for it in SCRIPTS])
 def test_package_has_the_same_bytes_again(tmp_path_factory, script):
     first, second = (made_by(script, tmp_path_factory, name) for name in ("", " again"))
     assert list(first) == list(second)
@@ -87,10 +87,11 @@ def machine_of(path: Path) -> int:
     return int.from_bytes(head[18:20], "little")
 
 
-@pytest.mark.slow(seconds=9)
-def test_lintian_has_no_error_and_no_warning(packages):
+@pytest.mark.parametrize("machine", [pytest.param("amd64", marks=pytest.mark.slow(seconds=9)),
+                                     pytest.param("arm64", marks=pytest.mark.huge)])
+def test_lintian_has_no_error_and_no_warning(packages, machine):
     needs.command("lintian", "lintian")
-    run = subprocess.run(["lintian", "--allow-root", "--fail-on", "error,warning", *debs(packages)],
+    run = subprocess.run(["lintian", "--allow-root", "--fail-on", "error,warning", *debs(packages, f"_{machine}.deb")],
                          stdout=subprocess.PIPE, stderr=subprocess.STDOUT, check=False)
     assert run.stdout.decode() == ""
     assert run.returncode == 0
@@ -240,12 +241,12 @@ def wheels(tmp_path_factory):
 
 
 def environment(folder: Path) -> Path:
-    """Python of an environment that sees Debian's numpy."""
+    """Python of an environment that sees Debian's numpy and pip."""
     for name, package in (("numpy", "python3-numpy"), ("pip", "python3-pip"), ("setuptools", "python3-setuptools"),
                           ("venv", "python3-venv")):
         if not needs.runs(DEBIAN, "-c", f"import {name}"):
             needs.missing(f"{DEBIAN} has no {name}", package)
-    subprocess.run([DEBIAN, "-m", "venv", "--system-site-packages", folder], check=True)
+    subprocess.run([DEBIAN, "-m", "venv", "--without-pip", "--system-site-packages", folder], check=True)
     return folder / "bin" / "python"
 
 

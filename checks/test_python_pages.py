@@ -57,13 +57,14 @@ def test_recipes_are_five():
                                                "Statistics by class", "Convert to a grid"]
 
 
-@pytest.mark.slow(seconds=7)
 def test_thin(it, place):
     run("Thin a huge file")
     whole, thin = it.read("tile.laz"), it.read("thin.laz")
 
+    left, low = whole.x.min(), whole.y.min()
+
     def cells(points):
-        return [(int((x - whole.x.min()) // 0.5), int((y - whole.y.min()) // 0.5)) for x, y in zip(points.x, points.y)]
+        return [(int((x - left) // 0.5), int((y - low) // 0.5)) for x, y in zip(points.x, points.y)]
 
     assert len(set(cells(thin))) == len(thin) == len(set(cells(whole)))
 
