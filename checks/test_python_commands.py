@@ -15,6 +15,7 @@ import library_files
 import needs
 import shared
 from programs import TOP
+from test_packages import made_by
 
 SOURCE = TOP / "python" / "src"
 TILE = TOP / "examples" / "tile.laz"
@@ -30,16 +31,26 @@ def it(tmp_path_factory):
     patch.undo()
 
 
+def started(folder, *words, **more):
+    """A run of a command in a folder: status, standard output, standard error."""
+    environment = dict(os.environ, PYTHONPATH=str(SOURCE), PYTHONDONTWRITEBYTECODE="1", MPLCONFIGDIR=str(folder))
+    done = subprocess.run([sys.executable, "-m", "balsamvise", *map(str, words)], cwd=folder, check=False,
+                          stdin=subprocess.DEVNULL, stdout=subprocess.PIPE, stderr=subprocess.PIPE,
+                          env={**environment, **more})
+    return done.returncode, done.stdout.decode(), done.stderr.decode()
+
+
 @pytest.fixture
 def run(it, tmp_path):
-    """A run of a command in a folder: status, standard output, standard error."""
-    def of(*words, **more):
-        environment = dict(os.environ, PYTHONPATH=str(SOURCE), PYTHONDONTWRITEBYTECODE="1", MPLCONFIGDIR=str(tmp_path))
-        done = subprocess.run([sys.executable, "-m", "balsamvise", *map(str, words)], cwd=tmp_path, check=False,
-                              stdin=subprocess.DEVNULL, stdout=subprocess.PIPE, stderr=subprocess.PIPE,
-                              env={**environment, **more})
-        return done.returncode, done.stdout.decode(), done.stderr.decode()
-    return of
+    return lambda *words, **more: started(tmp_path, *words, **more)
+
+
+@pytest.fixture(scope="module")
+def listed(it, tmp_path_factory):
+    """What `help` prints."""
+    status, said, _ = started(tmp_path_factory.mktemp("help"), "help")
+    assert status == 0
+    return said
 
 
 @pytest.fixture
@@ -62,11 +73,9 @@ def table():
 
 
 @pytest.mark.parametrize("word", table())
-def test_each_command_has_a_module_with_a_line_of_help(run, word):
+def test_each_command_has_a_module_with_a_line_of_help(run, listed, word):
     path = SOURCE / (table()[word].replace(".", "/") + ".py")
     line = ast.get_docstring(ast.parse(path.read_text())).splitlines()[0]
-    status, listed, _ = run("help")
-    assert status == 0
     assert re.search(rf"^  {word} +{re.escape(line)}$", listed, re.MULTILINE)
     status, said, _ = run(word, "--help")
     assert status == 0
@@ -100,7 +109,7 @@ def tile(tmp_path):
     return tmp_path / "tile.laz"
 
 
-@pytest.mark.parametrize("plain", [False, True])
+@pytest.mark.parametrize("plain", [False, pytest.param(True, marks=pytest.mark.slow)])
 @pytest.mark.parametrize("bound", range(6))
 def test_box_is_mended_and_no_other_byte(it, run, tile, plain, bound):
     path = tile.with_suffix(".las") if plain else tile
@@ -133,7 +142,7 @@ def test_box_of_no_points_stays(it, run, tmp_path):
     assert run("fit-box", tmp_path / "a.laz")[1].endswith("the box was right\n")
 
 
-@pytest.mark.parametrize("count", [0, 1, 1000, 20493, 30000])
+@pytest.mark.parametrize("count", [0, 1000, 20493, *(pytest.param(it, marks=pytest.mark.slow) for it in (1, 30000))])
 def test_sample_is_of_the_points_in_their_order(it, run, tile, tmp_path, count):
     for seed in (1, 2):
         assert run("sample", tile, f"{seed}.laz", "--points", count, "--seed", seed, "--threads", "2")[0] == 0
@@ -202,8 +211,8 @@ def test_plot_shows_the_highest_point_of_a_pixel(it):
     assert plot.metres_of(it.Head.new(0)) == 1
 
 
-@pytest.mark.slow(seconds=3)
-@pytest.mark.parametrize("data", [b"", bytes(8), b"\xff" * 7])
+@pytest.mark.parametrize("data", [pytest.param(b"\xff" * 7, marks=pytest.mark.slow(seconds=3)),
+                                  *(pytest.param(it, marks=pytest.mark.huge) for it in (b"", bytes(8)))])
 def test_plot_of_no_points_and_of_strange_heads(it, run, fonts, tmp_path, data):
     head = it.Head.new(0, vlrs=[it.Vlr(b"LASF_Projection", 34735, data)])
     it.Points.zeros(0, head).write(tmp_path / "b.laz")
@@ -216,20 +225,18 @@ def test_plot_of_no_points_and_of_strange_heads(it, run, fonts, tmp_path, data):
     assert (status, said.count("\n")) == (5, 1)
 
 
-def test_wheel_names_the_command(tmp_path):
-    subprocess.run([TOP / "release" / "wheel", tmp_path], stdout=subprocess.DEVNULL, check=True)
-    name, = tmp_path.glob("*x86_64.whl")
-    with zipfile.ZipFile(name) as archive:
+def test_wheel_names_the_command(tmp_path_factory):
+    wheel, = (path for name, path in made_by("wheel", tmp_path_factory).items() if name.endswith("x86_64.whl"))
+    with zipfile.ZipFile(wheel) as archive:
         entry, = [it for it in archive.namelist() if it.endswith("entry_points.txt")]
         assert archive.read(entry).decode() == "[console_scripts]\nbalsamvise = balsamvise.__main__:main\n"
 
 
 @pytest.mark.slow(seconds=3)
-def test_archive_has_the_command(tmp_path):
+def test_archive_has_the_command(tmp_path_factory, tmp_path):
     needs.module("numpy", "python3-numpy")
-    subprocess.run([TOP / "release" / "tar", tmp_path], stdout=subprocess.DEVNULL, check=True)
-    name, = tmp_path.glob("*x86_64.tar.gz")
-    shutil.unpack_archive(name, tmp_path / "a folder")
+    archive, = (path for name, path in made_by("tar", tmp_path_factory).items() if name.endswith("x86_64.tar.gz"))
+    shutil.unpack_archive(archive, tmp_path / "a folder")
     command, = (tmp_path / "a folder").glob("*/bin/balsamvise")
     clean = {key: value for key, value in os.environ.items() if not key.startswith("PYTHON")}
     clean.pop("BALSAMVISE_LIBRARY", None)
