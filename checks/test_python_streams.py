@@ -323,10 +323,10 @@ def test_chunks_are_packed_in_the_same_memory_again(it, tmp_path, threads):
 
 @pytest.mark.slow
 def test_memory_does_not_grow_with_the_file(it, tmp_path):
-    """Parts of 1,000,000 records of 34 bytes, by 4 threads: below 300 MB, for 4 parts and for 8."""
-    made, filtered, traced = memory(it, tmp_path, 4, "traced", 4)
+    """Parts of 1,000,000 records of 34 bytes, by 4 threads: below 300 MB, for 6 parts and for 12."""
+    made, filtered, traced = memory(it, tmp_path, 4, "traced", 6)
     assert traced < 200
-    few, many = memory(it, tmp_path, 4, "plain", 4), memory(it, tmp_path, 4, "plain", 8)
+    few, many = memory(it, tmp_path, 4, "plain", 6), memory(it, tmp_path, 4, "plain", 12)
     assert max(made, filtered, *few, *many) < 300
     assert many[1] - few[1] < 40
 
