@@ -9,7 +9,10 @@ from pathlib import Path
 
 import pytest
 
-sys.dont_write_bytecode = True
+# What pytest compiles of the suite is kept, and not in the checkout: else each process takes 3 seconds more to begin.
+CACHE = os.environ.get("XDG_CACHE_HOME") or os.path.expanduser("~/.cache")
+sys.pycache_prefix = os.path.join(CACHE, "balsamvise", "checks")
+sys.dont_write_bytecode = False
 pytest.register_assert_rewrite("runs", "commands", "measured", "failing_calls", "library_files")
 
 import costs  # noqa: E402
@@ -76,15 +79,20 @@ def pytest_report_header(config):
     return f"checked is {programs.found()}"
 
 
+def has(item, marker):
+    """Whether a case has a marker. (Its keywords have the id of its parameters too, which may be the same word.)"""
+    return item.get_closest_marker(marker) is not None
+
+
 def dealt_out(items, workers):
     """The cases in the order that keeps all workers busy: each begins with its share of the slow ones, longest first.
 
     xdist sends each worker a run of cases that follow one another to begin with, a quarter of its share; then it sends
     what is left to those that have done theirs.
     """
-    slow = [item for item in items if "slow" in item.keywords]
+    slow = [item for item in items if has(item, "slow")]
     slow.sort(key=lambda item: item.get_closest_marker("slow").kwargs.get("seconds", 1), reverse=True)
-    others = [item for item in items if "slow" not in item.keywords]
+    others = [item for item in items if not has(item, "slow")]
     size = max(len(items) // workers // 4, 2)
     order = []
     for worker in range(workers):
@@ -97,23 +105,23 @@ def dealt_out(items, workers):
 def pytest_collection_modifyitems(config, items):
     wanted = config.getoption("--alone")
     beside = "systems" in config.getoption("-m")
-    kept = [item for item in items if all((word in item.keywords) == config.getoption(f"--{word}")
+    kept = [item for item in items if all(has(item, word) == config.getoption(f"--{word}")
                                           for word in ("huge", "browser"))
-            and ("systems" in item.keywords) == beside]
+            and has(item, "systems") == beside]
     if wanted:
-        kept = [item for item in kept if ("alone" in item.keywords) == (wanted == "only")]
+        kept = [item for item in kept if has(item, "alone") == (wanted == "only")]
     chosen = set(kept)
     config.hook.pytest_deselected(items=[item for item in items if item not in chosen])
     items[:] = dealt_out(kept, getattr(config, "workerinput", {}).get("workercount", 1))
     for item in items:
-        if "slow" in item.keywords and not config.getoption("--all") and not config.getoption("--huge"):
+        if has(item, "slow") and not config.getoption("--all") and not config.getoption("--huge"):
             item.add_marker(pytest.mark.skip(reason="slow: ./check --all runs it"))
 
 
 def pytest_runtest_setup(item):
-    if "root" in item.keywords:
+    if has(item, "root"):
         needs.root()
-    if "kit" in item.keywords:
+    if has(item, "kit"):
         needs.command("rt", "the Rattle kit")
 
 

@@ -44,7 +44,7 @@ def test_package_has_the_same_bytes_again(tmp_path_factory, script):
         assert first[name].read_bytes() == second[name].read_bytes(), name
 
 
-@pytest.mark.parametrize("script", SCRIPTS)
+@pytest.mark.parametrize("script", [pytest.param("deb", marks=pytest.mark.slow(seconds=9)), "wheel", "tar"])
 def test_sums_are_those_of_the_packages(tmp_path_factory, script):
     made = made_by(script, tmp_path_factory)
     lines = dict(reversed(line.split("  ")) for line in made["SHA256SUMS"].read_text().splitlines())
@@ -61,6 +61,7 @@ def debs(packages, end=".deb"):
     return [path for name, path in packages.items() if name.endswith(end)]
 
 
+@pytest.mark.slow(seconds=1)
 def test_debian_packages_are_four_for_each_processor(packages):
     wanted = [f"{name}_{VERSION}_{architecture}.deb"
               for name in ("balsamvise", "liblaz-dev", "liblaz1", "python3-balsamvise")
@@ -68,6 +69,7 @@ def test_debian_packages_are_four_for_each_processor(packages):
     assert sorted(path.name for path in debs(packages)) == wanted
 
 
+@pytest.mark.slow(seconds=1)
 def test_packages_for_arm64_hold_programs_of_aarch64_and_no_static_one(packages, tmp_path):
     for name, place in (("balsamvise", "usr/libexec/las"), ("liblaz1", "usr/lib/aarch64-linux-gnu")):
         tree = tmp_path / name

@@ -232,7 +232,7 @@ def test_xyz_is_set_whole_by_rows_and_by_axis(np, points_of):
 
 def test_a_property_for_random_records(it, np):
     """What is assigned is read again, for any values that fit, and nothing else of the records changes."""
-    hypothesis = pytest.importorskip("hypothesis", reason=needs.__doc__)
+    hypothesis = needs.module("hypothesis", "python3-hypothesis")
     strategies = hypothesis.strategies
 
     @hypothesis.settings(max_examples=150, deadline=None, derandomize=True,
@@ -419,7 +419,7 @@ def test_other_formats_and_columns(it, np, points_of):
 
 
 def test_data_frame(np, points_of):
-    pytest.importorskip("pandas", reason="python3-pandas is not installed")
+    needs.module("pandas", "python3-pandas")
     frame = points_of(3).to_pandas()
     assert len(frame) == 1000
     assert frame["classification"].max() <= 31

@@ -4,8 +4,8 @@ use Rattle.std.specs.Coded.{Coded, code_by, coded×, coded_ℕ, coded_option}
 
 -- The number of the process that the drafts' names tell, or none if outputs are written under their own names; how many
 -- drafts there are, for how many the list has room, how many of them are on the disk for certain, and how many have got
--- their outputs' names. The drafts are numbered in the order in which they were begun. Those with the lowest numbers are
--- synced and moved.
+-- their outputs' names. The drafts are numbered in the order in which they were begun. Those with the lowest numbers
+-- are synced and moved.
 pub record Drafting : Type 0 where
   pub process : Option ℕ
   pub begun : ℕ
@@ -40,6 +40,6 @@ BeginsOne old new = new ≡ record old { begun = old.begun + 1; room = new.room 
 abbrev pub BeginsNone : Drafting → Drafting → Type 0
 BeginsNone old new = new ≡ record old { room = new.room }
 
--- An output is a draft: a new one, or one that was begun before.
+-- One draft more was begun, or there is one that was begun before: the numbers don't tell whose output that one is.
 abbrev pub HasDraft : Drafting → Drafting → Type 0
 HasDraft old new = BeginsOne old new ⊎ (BeginsNone old new × (0 < old.begun))
