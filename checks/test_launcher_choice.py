@@ -1,6 +1,7 @@
 """Which program the launcher runs, as sources, builds and releases come and go, and where it keeps what it unpacks."""
 import gzip
 import os
+import resource
 import shutil
 import subprocess
 import tempfile
@@ -9,6 +10,7 @@ import pytest
 
 import checkouts
 import commands
+import needs
 from checkouts import TELLER, Checkout, sum_of
 
 FIRST = "pub fn one() {}\n"
@@ -258,6 +260,24 @@ def test_no_place_that_can_be_written(read_only):
     assert run.returncode == 5
     assert told.startswith("[laszip][a b] 0 1 2 xfsz")
     assert os.listdir(temporary) == []
+
+
+@pytest.mark.parametrize("shell", ["dash", "bash"])
+def test_stamp_that_cannot_be_written_is_not_spoken_of(checkout, shell):
+    shell = needs.command(shell, shell)
+    assert checkout.ran("laszip") == ("released", "")
+    out = checkout.path("release", "out")
+    stamp = out / "stamp.sh"
+    size = stamp.stat().st_size
+    stamp.unlink()
+    checkout.forget()
+    # a limit under which the program can tell how it was started, and no stamp is whole
+    run = commands.quiet([shell, checkout.path("las"), "laszip"], env=checkout.without_rt(),
+                         preexec_fn=lambda: resource.setrlimit(resource.RLIMIT_FSIZE, (size - 1, size - 1)))
+    assert (run.returncode, run.stderr) == (0, b"")
+    assert checkout.told.read_text().startswith("[laszip]")
+    assert not stamp.exists()
+    assert [path.name for path in out.iterdir() if path.name.startswith(".")] == []
 
 
 def test_twelve_first_starts_at_once(checkout):

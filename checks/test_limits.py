@@ -28,6 +28,8 @@ def test_limit_on_the_size_of_files_is_a_write_fault(place, command, start):
     program = LAUNCHER
     if start == "program":
         words, program = ["-c", 'trap "" XFSZ; exec "$@"', "sh", place.program, *words], "/bin/sh"
+    else:
+        place.las("laszip", program=program)  # (the limit would hold for the program that is unpacked, too)
     run = place.las(*words, program=program, preexec_fn=limited(resource.RLIMIT_FSIZE, 1_024))
     runs.ended(run, 4, b"write fault\n")
     now = place.files()

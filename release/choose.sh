@@ -121,10 +121,10 @@ stamp_program() {
     for stamp in "$top/release/out/stamp.sh" "$kept_stamp"; do
         folder=${stamp%/*}
         mkdir -p -- "$folder" 2>/dev/null && fresh=$(mktemp "$folder/.stamp.XXXXXX" 2>/dev/null) || continue
-        # (readable, for others who use this checkout)
+        # (readable, for others who use this checkout; a disk that is full and a limit on file size are no fault here)
         printf "program='%s'\n[ \"\$boot\" = '%s' ] && [ \"\$(%s)\" = '%s' ] && held=1\n" \
-            "$program" "$boot" "$looking" "$listed" >"$fresh" && chmod 644 "$fresh" && mv -f -- "$fresh" "$stamp" &&
-            return
+            "$program" "$boot" "$looking" "$listed" 2>/dev/null >"$fresh" && chmod 644 "$fresh" &&
+            mv -f -- "$fresh" "$stamp" && return
         rm -f -- "$fresh"
     done
 }
