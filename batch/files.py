@@ -41,13 +41,17 @@ class Identity(NamedTuple):
     def regular(self) -> bool:
         return stat.S_ISREG(self.mode)
 
-    def same_file(self, other: Optional[Identity]) -> bool:
-        """The same file with the same content, as far as its times tell. A rename changes ctime, and is left out."""
-        return other is not None and self[:4] == other[:4]
+    def same_file(self, other: Optional[Identity], elsewhere: bool = False) -> bool:
+        """The same file with the same content, as far as its times tell. A rename changes ctime, and is left out.
+
+        So is the device of a file that another machine has seen, or an earlier start: a disk may have another number
+        when it is mounted anew.
+        """
+        return other is not None and self[1 if elsewhere else 0:4] == other[1 if elsewhere else 0:4]
 
     def unchanged(self, other: Optional[Identity], elsewhere: bool = False) -> bool:
-        """As it was, ctime too. Of a file seen from another machine the device is left out."""
-        return other is not None and self[1 if elsewhere else 0:5] == other[1 if elsewhere else 0:5]
+        """The same file, and ctime is as it was too."""
+        return other is not None and self.same_file(other, elsewhere) and self.ctime == other.ctime
 
 
 def look(path: bytes, follow: bool = False) -> Optional[Identity]:

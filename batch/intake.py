@@ -44,7 +44,8 @@ class Intake:
         self.state, self.run, self.note = state, run, note
         self.jobs = {job.number: job for job in jobs}
         self.by = made_by(run.command, run.words)
-        self.elsewhere = self.shipped = False
+        self.elsewhere = False  # whether files were seen from another machine, or by an earlier start
+        self.shipped = False
         self.later = False  # the jobs leave it to this to bring their drafts to the disk
         self.unsaved: list[Job] = []
 
@@ -109,7 +110,8 @@ class Intake:
         job.input_sum, job.output_sum, job.plain_sum = row.input_sum, row.output_sum, row.plain_sum
         if job.adopt:
             job.found = look(job.output)
-            return None if job.found and job.found.same_file(job.older) else (CHANGED, b"the output changed")
+            same = job.found is not None and job.found.same_file(job.older, self.elsewhere)
+            return None if same else (CHANGED, b"the output changed")
         job.draft = draft_of(self.run.token, job)
         try:
             job.found = look(job.draft)
@@ -203,7 +205,7 @@ class Intake:
         if job.adopt:
             return
         there = look(job.output)
-        if there is not None and (job.older is None or not there.same_file(job.older)):
+        if there is not None and (job.older is None or not there.same_file(job.older, self.elsewhere)):
             raise Clash(f"{quoted(job.output)}: another file took this name during the run")
         if there is None or job.older is None:
             self.move_over_nothing(job)
@@ -218,8 +220,7 @@ class Intake:
         except FileExistsError:
             raise Clash(f"{quoted(job.output)}: another file took this name during the run") from None
 
-    @staticmethod
-    def replace(job: Job) -> None:
+    def replace(self, job: Job) -> None:
         """Both files change places in one step, so that what was there is looked at once more before it goes."""
         older = os.stat(job.output)
         os.chmod(job.draft, stat.S_IMODE(older.st_mode))
@@ -232,7 +233,7 @@ class Intake:
             os.replace(old, job.output)
             return
         swapped = look(old)
-        if swapped is None or not swapped.same_file(job.older):
+        if swapped is None or not swapped.same_file(job.older, self.elsewhere):
             exchange(old, job.output)
             raise Clash(f"{quoted(job.output)}: another file took this name during the run")
         os.unlink(old)
@@ -268,7 +269,7 @@ class Intake:
             if not job.input_sum:
                 return b"the input was not compared, and stays"
             there = look(job.output)
-            if there is None or not there.same_file(job.found):
+            if there is None or not there.same_file(job.found, self.elsewhere):
                 return b"the output is not there as it was made, and the input stays"
             found, total = digest(job.input)
             if not found.unchanged(job.source, self.elsewhere) or total != job.input_sum:
@@ -342,6 +343,7 @@ class Settler:
 
     def __init__(self, intake: Intake, finish: bool) -> None:
         self.intake, self.finish = intake, finish
+        intake.elsewhere = True
 
     def all(self) -> None:
         jobs = list(self.intake.jobs.values())
@@ -367,6 +369,7 @@ class Settler:
         try:
             if self.is_at(job, job.output):
                 self.after_exchange(job, old)
+                job.found = look(job.output) or job.found
             elif self.is_at(job, old) or self.is_at(job, part):
                 if self.is_at(job, old):
                     os.rename(old, part)
@@ -380,13 +383,13 @@ class Settler:
     @staticmethod
     def is_at(job: Job, path: bytes) -> bool:
         seen: Optional[Identity] = look(path)
-        return seen is not None and seen.same_file(job.found)
+        return seen is not None and seen.same_file(job.found, elsewhere=True)
 
     def after_exchange(self, job: Job, old: bytes) -> None:
         swapped = look(old)
         if swapped is None:
             return
-        if swapped.same_file(job.older):
+        if swapped.same_file(job.older, elsewhere=True):
             os.unlink(old)
             return
         exchange(old, job.output)
@@ -399,7 +402,7 @@ class Settler:
         if seen is None:
             there = look(job.input, follow=True)
             job.removal = KEPT if there else REMOVED
-            if there and there.same_file(job.source):
+            if there and there.same_file(job.source, elsewhere=True):
                 job.source = there  # put back, which sets its ctime; its sum is compared before it is removed
         elif self.finish and job.source and seen[1:4] == job.source[1:4] and digest(job.hidden)[1] == job.input_sum \
                 and self.is_at(job, job.output):

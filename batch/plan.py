@@ -242,8 +242,11 @@ class Planner:
         """Whether an output is the file that the state knows; one that was moved or restored has its sum compared."""
         if there.same_file(record.found):
             return True
-        known = there[2:4] == record.found[2:4] and record.output_sum != ""
-        return known and self.sum_is(job.output, record.output_sum)
+        if there[2:4] != record.found[2:4]:
+            return False
+        if record.output_sum:
+            return self.sum_is(job.output, record.output_sum)
+        return there.unchanged(record.found, elsewhere=True)  # a disk that has another number now
 
     def same_input(self, job: Job, source: Identity, record: Made) -> bool:
         if source.unchanged(record.source):

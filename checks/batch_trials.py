@@ -2,8 +2,10 @@
 import re
 import shutil
 import subprocess
+from collections.abc import Iterable
 from pathlib import Path
 
+import needs
 from batch_places import Tiles, wait_until
 
 INPUTS = ["tiles/a.las", "tiles/b.las"]
@@ -11,6 +13,31 @@ WORDS = ["laszip", "-odir", "out", "-verify", "-delete", *INPUTS]
 PLAIN_WORDS = ["laszip", "-odir", "out", *INPUTS]
 TELLING = {"rename", "renameat2", "unlink", "rmdir"}
 TAKING = ["write", "pwrite64", "fsync", "fdatasync", "mkdir", "open64", "rename", "renameat2", "unlink"]
+
+
+def faults_library(folder: Path) -> Path:
+    """The library that lets a file call of a process fail, or kills it there, compiled into a folder."""
+    compiler = needs.command("gcc", "gcc")
+    built = folder / "faults.so"
+    source = Path(__file__).with_name("batch_faults.c")
+    subprocess.run([compiler, "-O2", "-Wall", "-Wextra", "-Werror", "-shared", "-fPIC", "-o", built, source, "-ldl"],
+                   check=True)
+    return built
+
+
+def spread(calls: list[str], names: Iterable[str], count: int = 2, last: bool = False) -> list[int]:
+    """The first call of each of these names, the last one, and others between them: `count` of each name. If that is
+    one, it is the first, or the last.
+    """
+    chosen: set[int] = set()
+    for name in names:
+        places = [at for at, one in enumerate(calls, 1) if one == name]
+        assert places, (name, calls)
+        if count == 1:
+            chosen.add(places[-1 if last else 0])
+        else:
+            chosen |= {places[round(at * (len(places) - 1) / (count - 1))] for at in range(count)}
+    return sorted(chosen)
 
 
 class Trials(Tiles):

@@ -4,13 +4,11 @@ In the gate these are the first and the last of each kind of call that gives a n
 each of those, what follows each, and every other call.
 """
 import errno
-import subprocess
-from pathlib import Path
 
 import pytest
 
 import needs
-from batch_trials import PLAIN_WORDS, TAKING, TELLING, WORDS, Trials
+from batch_trials import PLAIN_WORDS, TAKING, TELLING, WORDS, Trials, faults_library, spread
 
 SPREAD = "some"  # the part that is in the gate
 PARTS = 32  # of all calls, beside those that tell, which are part 0
@@ -18,12 +16,7 @@ PARTS = 32  # of all calls, beside those that tell, which are part 0
 
 @pytest.fixture(scope="module")
 def library(tmp_path_factory):
-    compiler = needs.command("gcc", "gcc")
-    built = tmp_path_factory.mktemp("faults") / "faults.so"
-    source = Path(__file__).with_name("batch_faults.c")
-    subprocess.run([compiler, "-O2", "-Wall", "-Wextra", "-Werror", "-shared", "-fPIC", "-o", built, source, "-ldl"],
-                   check=True)
-    return built
+    return faults_library(tmp_path_factory.mktemp("faults"))
 
 
 @pytest.fixture
@@ -31,21 +24,6 @@ def trials(program, tmp_path, library):
     needs.command("parallel", "parallel")
     needs.command("flock", "util-linux")
     return Trials(tmp_path, program, library)
-
-
-def spread(calls, names, count=2, last=False):
-    """The first call of each of these names, the last one, and others between them: `count` of each name. If that is
-    one, it is the first, or the last.
-    """
-    chosen = set()
-    for name in names:
-        places = [at for at, one in enumerate(calls, 1) if one == name]
-        assert places, (name, calls)
-        if count == 1:
-            chosen.add(places[-1 if last else 0])
-        else:
-            chosen |= {places[round(at * (len(places) - 1) / (count - 1))] for at in range(count)}
-    return sorted(chosen)
 
 
 def those_of(part, calls, after=0):
