@@ -1,12 +1,15 @@
 """What is asked of the file system: which file it is, its SHA-256, moves that write nothing over, and syncs."""
 from __future__ import annotations
 
+import contextlib
 import ctypes
 import errno
+import fcntl
 import hashlib
 import os
 import secrets
 import stat
+import time
 from collections.abc import Iterable
 from typing import NamedTuple, Optional
 
@@ -143,6 +146,21 @@ def sync_folder(path: bytes) -> None:
             raise
     finally:
         os.close(folder)
+
+
+def lock_folder(path: bytes) -> Optional[int]:
+    """Locks a folder for itself and others that do so; the lock is held until the file is closed. None: it can't be."""
+    file = None
+    with contextlib.suppress(OSError):
+        file = os.open(path, os.O_RDONLY | os.O_DIRECTORY)
+        for _ in range(20):  # `clean` holds it for a moment
+            with contextlib.suppress(BlockingIOError):
+                fcntl.flock(file, fcntl.LOCK_SH | fcntl.LOCK_NB)
+                return file
+            time.sleep(0.05)
+    if file is not None:
+        os.close(file)
+    return None
 
 
 def folder_of(path: bytes) -> bytes:

@@ -16,7 +16,7 @@ from typing import Any, Optional
 from .ahead import Ahead
 from .bag import BAG_FOLDER, seal_bag
 from .engines import Engine, Here, Hosts, Slurm, new_place, still_runs
-from .files import folder_of, folders_of, kind_of_disk, make_folders, on_network
+from .files import folder_of, folders_of, is_below, kind_of_disk, lock_folder, make_folders, on_network
 from .guard import Guard, sweep
 from .intake import Intake, Settler
 from .manifest import check_manifest, write_manifests
@@ -286,6 +286,8 @@ class Batch:
         folders = list(folders_of(job.output for job in todo))
         tell_drafts(folders)
         array = bool(run.settings["slurm"])
+        # a draft is not locked from when its job has ended to when it gets its name
+        locks = [lock_folder(folder) for folder in folders if not is_below(folder, run.folder)]
         guard = Guard(run.token, [] if array else folders, self.ahead.closed_by_guard())
         goes_on = False
         try:
@@ -295,6 +297,9 @@ class Batch:
             if not goes_on:
                 sweep(folders, run.token)
             guard.farewell()
+            for lock in locks:
+                if lock is not None:
+                    os.close(lock)
 
     def engine(self, run: Run, intake: Intake, todo: list[Job], place: bytes) -> Engine:
         las = self.ahead.question.answer[0]

@@ -131,10 +131,10 @@ def clean(top: bytes) -> int:
             if needed is None:
                 refuse(f"a las-batch works in {quoted(place)}")
             kept |= needed
-        for name in names:
-            if not DRAFT.fullmatch(name) or any(name.startswith(start) for start in kept):
-                continue
-            if not is_made_above(name, above) and remove_draft(os.path.join(place, name)):
+        drafts = [name for name in names if DRAFT.fullmatch(name) and not any(name.startswith(start) for start in kept)]
+        used = bool(drafts) and is_used(place)
+        for name in drafts:
+            if not used and not is_made_above(name, above) and remove_draft(os.path.join(place, name)):
                 removed += 1
             else:
                 held += 1
@@ -173,6 +173,14 @@ def is_made_above(draft: bytes, folder: bytes) -> bool:
             return False
         folder = folder_of(folder)
     return False
+
+
+def is_used(folder: bytes) -> bool:
+    """Whether a las-batch makes drafts in a folder to which a link in its own folder leads."""
+    try:
+        return not is_free(os.path.realpath(folder))
+    except OSError:  # a file system that locks no folders
+        return False
 
 
 def is_free(path: bytes) -> bool:

@@ -2,6 +2,7 @@
  * is loaded into by LD_PRELOAD, and in none that this one starts.
  *
  * FAULT_FOLDER  calls that name a file below this folder, or a relative path, are counted, from 1
+ * FAULT_NAME    of these, those of this name alone
  * FAULT_AT      the call that is meant
  * FAULT_ERROR   the number of the error that it fails with
  * FAULT_STAYS   so do all calls that take room on a disk, from that one on
@@ -73,7 +74,8 @@ static int takes_room(const char *name) {
 /* Whether this call fails; errno is then set. `mark` is -1 if it is no counted call, else its number. */
 static int fails(const char *name, int counted, long *mark) {
     *mark = -1;
-    if (!counted || getpid() != here)
+    const char *only = getenv("FAULT_NAME");
+    if (!counted || getpid() != here || (only && strcmp(name, only) != 0))
         return 0;
     *mark = atomic_fetch_add(&calls, 1) + 1;
     const char *log = getenv("FAULT_LOG"), *at = getenv("FAULT_AT");

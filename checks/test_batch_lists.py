@@ -11,6 +11,7 @@ import needs
 import programs
 from batch_places import Tiles, wait_until
 from batch_tiles import ODD, ended
+from batch_trials import faults_library
 
 
 @pytest.fixture
@@ -397,13 +398,32 @@ def test_clean_of_a_folder_below_leaves_what_a_run_above_makes(tiles, linked):
     tiles.path("elsewhere").mkdir()
     if linked:
         tiles.path("out/sub").symlink_to(tiles.path("elsewhere"))
-    with tiles.running("laszip", "-odir", "out", "-jobs", "2", "-r", "tiles", las=tiles.slow(0.4)) as run:
+    go = tiles.path("go")
+    las = tiles.command("waiting_las", f'[ "$1" != --version ] || exit 1\nwhile [ ! -e {go} ]; do sleep 0.05; done\n'
+                                       f'exec {tiles.program} "$@"')
+    with tiles.running("laszip", "-odir", "out", "-jobs", "2", "-r", "tiles", las=str(las)) as run:
         assert wait_until(tiles.parts)
-        time.sleep(0.1)  # until the draft is locked
         cleaned = tiles.batch("clean", "elsewhere" if linked else "out/sub")
         assert b"las-batch: 0 drafts removed, " in cleaned.stderr and b" 0 are in use" not in cleaned.stderr
+        go.touch()
         assert run.wait(60) == 0
     assert sorted(path.name for path in tiles.path("out/sub").iterdir()) == [f"{number}.laz" for number in range(8)]
+
+
+@pytest.mark.parametrize("linked", [False, True], ids=["a folder below", "a folder elsewhere, by a link"])
+def test_clean_leaves_what_waits_for_its_name(tiles, linked):
+    """Its job has ended, and holds the draft locked no more."""
+    tiles.make("tiles/sub/a.las")
+    folder, said = tiles.path("elsewhere" if linked else "out/sub"), tiles.path("said")
+    folder.mkdir(parents=True)
+    if linked:
+        tiles.path("out").mkdir()
+        tiles.path("out/sub").symlink_to(folder)
+    # before the draft gets its name
+    fault = {"LD_PRELOAD": str(faults_library(tiles.folder)), "FAULT_FOLDER": str(tiles.folder), "FAULT_AT": "1",
+             "FAULT_NAME": "renameat2", "FAULT_RUN": f"{programs.BATCH} clean '{folder}' 2>'{said}'"}
+    ended(tiles.batch("laszip", "-odir", "out", "-r", "tiles", environment=fault), 0, b"1 done, 0 not")
+    assert said.read_bytes() == b"las-batch: 0 drafts removed, 1 are in use\n"
 
 
 def test_clean_of_a_folder_below_removes_what_a_killed_run_above_left(tiles):
