@@ -44,8 +44,8 @@ class Intake:
         self.state, self.run, self.note = state, run, note
         self.jobs = {job.number: job for job in jobs}
         self.by = made_by(run.command, run.words)
-        self.elsewhere = False  # whether files were seen from another machine, or by an earlier start
-        self.shipped = False
+        self.elsewhere = self.shipped = False
+        self.earlier = False  # whether an earlier start saw the files: a disk may have another number now
         self.later = False  # the jobs leave it to this to bring their drafts to the disk
         self.unsaved: list[Job] = []
 
@@ -110,7 +110,7 @@ class Intake:
         job.input_sum, job.output_sum, job.plain_sum = row.input_sum, row.output_sum, row.plain_sum
         if job.adopt:
             job.found = look(job.output)
-            same = job.found is not None and job.found.same_file(job.older, self.elsewhere)
+            same = job.found is not None and job.found.same_file(job.older, self.earlier)
             return None if same else (CHANGED, b"the output changed")
         job.draft = draft_of(self.run.token, job)
         try:
@@ -205,7 +205,7 @@ class Intake:
         if job.adopt:
             return
         there = look(job.output)
-        if there is not None and (job.older is None or not there.same_file(job.older, self.elsewhere)):
+        if there is not None and (job.older is None or not there.same_file(job.older, self.earlier)):
             raise Clash(f"{quoted(job.output)}: another file took this name during the run")
         if there is None or job.older is None:
             self.move_over_nothing(job)
@@ -233,7 +233,7 @@ class Intake:
             os.replace(old, job.output)
             return
         swapped = look(old)
-        if swapped is None or not swapped.same_file(job.older, self.elsewhere):
+        if swapped is None or not swapped.same_file(job.older, self.earlier):
             exchange(old, job.output)
             raise Clash(f"{quoted(job.output)}: another file took this name during the run")
         os.unlink(old)
@@ -269,10 +269,10 @@ class Intake:
             if not job.input_sum:
                 return b"the input was not compared, and stays"
             there = look(job.output)
-            if there is None or not there.same_file(job.found, self.elsewhere):
+            if there is None or not there.same_file(job.found, self.earlier):
                 return b"the output is not there as it was made, and the input stays"
             found, total = digest(job.input)
-            if not found.unchanged(job.source, self.elsewhere) or total != job.input_sum:
+            if not found.unchanged(job.source, self.elsewhere or self.earlier) or total != job.input_sum:
                 return b"the input changed after it was compared, and stays"
         except OSError as problem:
             return b"the input stays: " + told(problem)
@@ -343,7 +343,7 @@ class Settler:
 
     def __init__(self, intake: Intake, finish: bool) -> None:
         self.intake, self.finish = intake, finish
-        intake.elsewhere = True
+        intake.earlier = True
 
     def all(self) -> None:
         jobs = list(self.intake.jobs.values())

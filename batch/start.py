@@ -254,10 +254,10 @@ class Batch:
 
         intake = Intake(self.state, run, jobs, note)
         if run.settings.get("delete") or run.settings.get("trash"):
-            intake.elsewhere = True  # an earlier start has seen these
+            intake.earlier = True
             intake.remove_inputs([job for job in jobs if job.state == DONE and job.removal == 0 and job.input_sum
                                   and os.path.lexists(job.input)])
-            intake.elsewhere = False
+            intake.earlier = False
         self.make_outputs_folders(todo)
         todo = [job for job in todo if job.state != FAILED]
         if todo and not self.stop.number:

@@ -34,6 +34,8 @@ def mounted_anew(disk: Path) -> None:
     device = commands.good(["losetup", "-f", "--show", image]).strip()
     # (a process that was killed may still be there)
     assert wait_until(lambda: subprocess.run(["umount", disk], check=False).returncode == 0, 20)
+    # (what was read of the new device before that is old)
+    subprocess.run(["blockdev", "--flushbufs", device], check=True)
     subprocess.run(["mount", device, disk], check=True)
     subprocess.run(["losetup", "-d", device], check=True)  # when it is unmounted
     assert os.stat(disk).st_dev != before
